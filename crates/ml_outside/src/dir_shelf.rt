@@ -106,3 +106,6 @@ fn read_open<F: Read + OpenFile + Drop>(
     }
     Ok(bytes)
 }
+
+#[cfg(test)]
+mod tests;

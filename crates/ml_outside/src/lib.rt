@@ -6,6 +6,8 @@
 //! What carries the layer: no fault is told that was not counted, and a count never falls.
 #![tactic(auto)]
 
+#[cfg(test)]
+mod answers;
 mod dir_shelf;
 mod mem_shelf;
 mod mem_sink;

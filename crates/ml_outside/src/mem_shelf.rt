@@ -61,3 +61,33 @@ impl Shelf for MemShelf {
         Ok(())
     }
 }
+
+#[cfg(test)]
+mod tests {
+    use super::*;
+    use crate::answers::is_same;
+    use std::test::Fail;
+
+    #[test]
+    fn what_is_put_is_fetched_within_the_limit(rt: HostRuntime) -> Result<(), Fail> {
+        let alloc = rt.alloc();
+        let mut shelf = MemShelf::new(alloc);
+        for (name, bytes) in [("a", "older"), ("b", ""), ("a", "newer text"), ("ab", "c")] {
+            shelf.put(alloc, name, bytes.as_bytes())?;
+        }
+        for (name, limit, want) in [
+            ("a", 10, Ok("newer text")),
+            ("a", usize::MAX, Ok("newer text")),
+            ("a", 9, Err(FetchStop::TooLong)),
+            ("b", 0, Ok("")),
+            ("ab", 1, Ok("c")),
+            ("ab", 0, Err(FetchStop::TooLong)),
+            ("c", 10, Err(FetchStop::Absent)),
+            ("", 10, Err(FetchStop::Absent)),
+        ] {
+            let got = shelf.fetch(alloc, name, limit);
+            assert!(rt; is_same(&got, want), "{name} up to {limit}");
+        }
+        Ok(())
+    }
+}

@@ -47,3 +47,20 @@ impl Sink for MemSink {
         Ok(())
     }
 }
+
+#[cfg(test)]
+mod tests {
+    use super::*;
+    use std::test::Fail;
+
+    #[test]
+    fn what_is_written_stands_behind_what_was(rt: HostRuntime) -> Result<(), Fail> {
+        let alloc = rt.alloc();
+        let mut sink = MemSink::new(alloc);
+        for (piece, want) in [("", ""), ("ab", "ab"), ("", "ab"), ("c\n", "abc\n")] {
+            sink.write_all(alloc, piece.as_bytes())?;
+            assert_eq!(rt; sink.bytes(), want.as_bytes());
+        }
+        Ok(())
+    }
+}

@@ -47,3 +47,6 @@ impl<P: Print> Sink for OutSink<'_, P> {
         result
     }
 }
+
+#[cfg(test)]
+mod tests;

@@ -1,0 +1,5 @@
+pub mod Changing
+pub mod Closing
+pub mod Lists
+pub mod Seating
+pub mod Turning

@@ -1,0 +1,33 @@
+-- What clauses see of a latch and of its seats.
+use Rattle.std.specs.Prelude.{◌≡◌, ℕ, ◌<◌, ◌≤◌, List, Option, Some, Contains}
+use Rattle.atomic_table.specs.Seated.{TableId}
+
+-- A latch is its table, the value that it was made with, and how many seats it may give out.
+pub record LatchState (X : Type 0) : Type 0 where
+  pub table : TableId
+  pub start : X
+  pub seats : ℕ
+
+-- A seat is its latch, told by the table and by the value that the latch was made with, its number, the past that it has
+-- seen, what was done through it, how many seats it gave out, and the number of each seat that it took in with what was
+-- done through that one. The code has two numbers and a token without bytes.
+pub record SeatState (X E N : Type 0) : Type 0 where
+  pub table : TableId
+  pub start : Option X
+  pub number : ℕ
+  pub seen : List E
+  pub own : List N
+  pub given : ℕ
+  pub kept : List (ℕ × List N)
+
+-- The seat is one of this latch.
+abbrev pub IsSeatOf : {X E N : Type 0} → LatchState X → SeatState X E N → Type 0
+IsSeatOf latch seat = (seat.table ≡ latch.table) × (seat.start ≡ Some latch.start)
+
+-- The seat took the one with the number n in.
+abbrev pub TookIn : {X E N : Type 0} → SeatState X E N → ℕ → Type 0
+TookIn {N} seat n = (own : List N) × Contains seat.kept (n, own)
+
+-- The seat took in each one that it gave out.
+abbrev pub TookInEach : {X E N : Type 0} → SeatState X E N → Type 0
+TookInEach seat = (n : ℕ) → 0 < n → n ≤ seat.given → TookIn seat n

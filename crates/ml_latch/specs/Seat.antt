@@ -1,5 +1,5 @@
 -- What clauses see of a latch and of its seats.
-use Rattle.std.specs.Prelude.{◌≡◌, ℕ, ◌<◌, ◌≤◌, List, Option, Some, Contains}
+use Rattle.std.specs.Prelude.{◌≡◌, ℕ, ◌+◌, ◌<◌, ◌≤◌, List, [], Option, Some, Contains, slice_get}
 use Rattle.atomic_table.specs.Seated.{TableId}
 
 -- A latch is its table, the value that it was made with, and how many seats it may give out.
@@ -31,3 +31,9 @@ TookIn {N} seat n = (own : List N) × Contains seat.kept (n, own)
 -- The seat took in each one that it gave out.
 abbrev pub TookInEach : {X E N : Type 0} → SeatState X E N → Type 0
 TookInEach seat = (n : ℕ) → 0 < n → n ≤ seat.given → TookIn seat n
+
+-- These seats were given out by one latch, one after another, and none took another in.
+abbrev pub AreNumbered : {X E N : Type 0} → LatchState X → List (SeatState X E N) → Type 0
+AreNumbered {X} {E} {N} latch seats =
+    (k : ℕ) (seat : SeatState X E N) → slice_get seats k ≡ Some seat
+    → IsSeatOf latch seat × (seat.number ≡ k + 1) × (seat.kept ≡ [])

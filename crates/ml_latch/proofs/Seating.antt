@@ -1,5 +1,5 @@
 -- The rule holds at the start, and is kept where a seat is given out or taken in.
-use Rattle.std.proofs.Common.{◌≡◌, ◌≢◌, ℕ, suc, ◌+◌, ◌^◌, ◌<◌, ◌≤◌, List, [], ◌∷◌, ◌++◌, length, set, refl, ap, sym, ◌∙◌, subst, ⊎_elim, arith, Option, Some, None, Contains, nat_lt, length-set, length-append}
+use Rattle.std.proofs.Common.{◌≡◌, ◌≢◌, ℕ, suc, ◌+◌, ◌<◌, List, [], ◌∷◌, ◌++◌, length, set, refl, ap, sym, ◌∙◌, subst, ⊎_elim, arith, Option, Some, None, Contains, nat_lt, length-set, length-append}
 use Rattle.std.proofs.lemmas.List.Elements.{Contains-append_cases}
 use mathlib.Core.List.{IsPrefix}
 use mathlib.Core.Option.{some, some-ne-none}
@@ -9,7 +9,7 @@ use Rattle.atomic_table.specs.Table.{State, Me, Step, Allows, Splits, Joins, kee
 use Rattle.atomic_table.proofs.Lists.{at_set, set_here, set_else}
 use Rattle.ml_latch.specs.declared.view.View.{View}
 use Rattle.ml_latch.specs.Place.{IsIdle}
-use Rattle.ml_latch.specs.Rule.{ticket_count, tickets_held, IsSpent, Knows, Fits, IsInTurns}
+use Rattle.ml_latch.specs.Rule.{ticket_count, tickets_held, IsSpent, Fits, IsInTurns}
 use Rattle.ml_latch.specs.Steps.{Settles}
 use Rattle.ml_latch.specs.View.{first_view, own_at_start, given_view, after_giving, after_taking_in, after_settling, spent_view}
 use Rattle.ml_latch.proofs.Lists.{prefix_refl, longer_fits, is_within, at_end, at_longer, set-set_apart, Contains-cons_cases, Contains-nil}

@@ -1,5 +1,5 @@
 -- The steps of a turn keep the rule: a ticket is drawn, the seat looks, and the turn is passed on.
-use Rattle.std.proofs.Common.{◌≡◌, ◌≢◌, ℕ, zero, suc, ◌+◌, ◌%◌, ◌^◌, ◌<◌, ◌≤◌, List, [], ◌∷◌, length, get_or, set, refl, ap, sym, ◌∙◌, subst, arith, Option, Some, None, length-set}
+use Rattle.std.proofs.Common.{◌≡◌, ◌≢◌, ℕ, ◌+◌, ◌%◌, ◌^◌, ◌<◌, List, [], ◌∷◌, length, get_or, set, refl, ap, sym, ◌∙◌, subst, arith, Option, Some, None, length-set}
 use Rattle.std.proofs.Math.Nat.{mod-add-mod}
 use mathlib.Core.Logic.{dite}
 use mathlib.Core.List.{IsPrefix}
@@ -12,7 +12,7 @@ use Rattle.atomic_table.specs.Table.{State, Me, Step, keeps, takes, gives, homes
 use Rattle.atomic_table.proofs.Lists.{one_turn}
 use Rattle.ml_latch.specs.declared.view.View.{View}
 use Rattle.ml_latch.specs.Place.{IsIdle}
-use Rattle.ml_latch.specs.Rule.{ticket_count, home, Knows, Fits, IsInTurns}
+use Rattle.ml_latch.specs.Rule.{ticket_count, home, IsInTurns}
 use Rattle.ml_latch.specs.Steps.{Draws, Looks, Passes}
 use Rattle.ml_latch.specs.Turn.{Finds, MayBecome}
 use Rattle.ml_latch.specs.View.{after_turn}

@@ -28,7 +28,7 @@ IsSpent {X} {E} {N} views n = (v : View X E N) × (get_elem? views n ≡ some v)
 
 module _ {X E N B : Type 0} (past : X → List E) (own : X → ℕ → List N) (base : X → B) where
   -- What is so of a seat that was not taken in. Its number is its place among the views; the seat 0 counts all others; what it
-  -- has seen and was told begins the past; its own list is the value's, and so is each list that it keeps of a seat that was taken in.
+  -- has seen and was told begins the past; its own list is the value's, and so is each list that it keeps of a seat taken in.
   pub record Knows (start value : X) (views : List (View X E N)) (place : ℕ) (v : View X E N) : Type 0 where
     pub begun : v.start ≡ Some start
     pub number : v.number ≡ place
@@ -38,18 +38,20 @@ module _ {X E N B : Type 0} (past : X → List E) (own : X → ℕ → List N) (
     pub own_is : own value place ≡ v.own
     pub kept : (n : ℕ) (notes : List N) → Contains v.kept (n, notes) → (own value n ≡ notes) × IsSpent views n
 
-  -- What is so of each seat, where `taker` is the place of the one that has its turn. That one has taken the value, and its ticket
-  -- is served; no other has taken a value. A ticket was drawn and not passed on, and a seat that has one was not taken in.
-  pub record Fits (taker : Option ℕ) (passed drawn : ℕ) (start value : X) (views : List (View X E N)) (place : ℕ) (v : View X E N) : Type 0 where
+  -- What is so of each seat, where `taker` is the place of the one that has its turn. That one has taken the value, and its
+  -- ticket is served; no other has taken a value. A ticket was drawn and not passed on, and a seat that has one was not taken in.
+  pub record Fits (taker : Option ℕ) (passed drawn : ℕ) (start value : X) (views : List (View X E N))
+      (place : ℕ) (v : View X E N) : Type 0 where
     pub turn : taker ≡ Some place → (v.taken ≡ Some value) × (v.ticket ≡ Some passed)
     pub idle : taker ≢ Some place → v.taken ≡ None
     pub ticket : (k : ℕ) → v.ticket ≡ Some k → (passed ≤ k) × (k < drawn) × (v.start ≡ Some start)
     pub knows : (x : X) → v.start ≡ Some x → Knows start value views place v
 
-  -- There are counts of the tickets drawn and of the turns passed on, which the two words hold modulo 2 ^ 64, and there is one value:
-  -- at home, or out with the seat that has its turn, and then it is the value as that turn found it. Each ticket that was
-  -- drawn and not passed on is held by one seat. There are at most 2 ^ 32 seats, so the tickets that are held stay different modulo 2 ^ 64.
-  -- The list of a number that was not given out is that of the value at the start. The code has neither the counts nor the views.
+  -- There are counts of the tickets drawn and of the turns passed on, which the two words hold modulo 2 ^ 64, and there is one
+  -- value: at home, or out with the seat that has its turn, and then it is the value as that turn found it. Each ticket that was
+  -- drawn and not passed on is held by one seat. A seat's number is a u32, so there are at most 2 ^ 32 seats, and the tickets
+  -- that are held stay different modulo 2 ^ 64. The list of a number that was not given out is that of the value at the start.
+  -- The code has neither the counts nor the views.
   pub record IsInTurns (start : X) (s : State (Option X) (View X E N)) : Type 0 where
     pub drawn : ℕ
     pub passed : ℕ
@@ -64,4 +66,5 @@ module _ {X E N B : Type 0} (past : X → List E) (own : X → ℕ → List N) (
     pub base_is : base value ≡ base start
     pub fresh : (n : ℕ) → length s.views ≤ n → own value n ≡ own start n
     pub each : (p : ℕ) (v : View X E N) → get_elem? s.views p ≡ some v → Fits taker passed drawn start value s.views p v
-    pub apart : (p q k : ℕ) (v w : View X E N) → get_elem? s.views p ≡ some v → get_elem? s.views q ≡ some w → v.ticket ≡ Some k → w.ticket ≡ Some k → p ≡ q
+    pub apart : (p q k : ℕ) (v w : View X E N) → get_elem? s.views p ≡ some v → get_elem? s.views q ≡ some w
+        → v.ticket ≡ Some k → w.ticket ≡ Some k → p ≡ q

@@ -1,6 +1,7 @@
 -- What clauses see of a latch and of its seats.
-use Rattle.std.specs.Prelude.{◌≡◌, ℕ, ◌+◌, ◌<◌, ◌≤◌, List, [], Option, Some, Contains, slice_get}
+use Rattle.std.specs.Prelude.{◌≡◌, ℕ, ◌+◌, ◌<◌, ◌≤◌, List, [], ◌∷◌, ◌++◌, Option, Some, Contains, slice_get}
 use Rattle.atomic_table.specs.Seated.{TableId}
+use Rattle.ml_latch.specs.Lists.{longer}
 
 -- A latch is its table, the value that it was made with, and how many seats it may give out.
 pub record LatchState (X : Type 0) : Type 0 where
@@ -23,6 +24,14 @@ pub record SeatState (X E N : Type 0) : Type 0 where
 -- The seat is one of this latch.
 abbrev pub IsSeatOf : {X E N : Type 0} → LatchState X → SeatState X E N → Type 0
 IsSeatOf latch seat = (seat.table ≡ latch.table) × (seat.start ≡ Some latch.start)
+
+-- What a seat is after it took another in: it has seen the longer of what both had seen, and keeps what was done through the
+-- other, and all that the other kept.
+abbrev pub after_joining : {X E N : Type 0} → SeatState X E N → SeatState X E N → SeatState X E N
+after_joining into other = record into {
+  seen = longer into.seen other.seen;
+  kept = into.kept ++ (other.number, other.own) ∷ other.kept;
+}
 
 -- The seat took the one with the number n in.
 abbrev pub TookIn : {X E N : Type 0} → SeatState X E N → ℕ → Type 0

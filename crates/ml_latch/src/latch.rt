@@ -1,9 +1,8 @@
 //! The latch.
-ghost use Rattle.std.specs.Prelude.{◌≡◌, ◌<◌, ◌≤◌, ◌+◌, ◌++◌, ◌∷◌, ℕ, [], IfOk, List, Contains};
+ghost use Rattle.std.specs.Prelude.{◌≡◌, ◌<◌, ◌≤◌, ◌+◌, ℕ, [], IfOk, List, Contains};
 ghost use mathlib.Core.List.{IsPrefix};
-ghost use Rattle.ml_latch.specs.Lists.{longer};
-ghost use Rattle.ml_latch.specs.Seat.{IsSeatOf, TookInEach};
-ghost use Rattle.ml_latch.specs.Turn.{TakesTurn};
+ghost use Rattle.ml_latch.specs.Seat.{IsSeatOf, TookInEach, after_joining};
+ghost use Rattle.ml_latch.specs.Turn.{MayWorkAfter, TakesTurn};
 
 use crate::job::Job;
 use crate::kept::Kept;
@@ -90,10 +89,11 @@ impl<V: Kept> Latch<V> {
         }
     }
 
-    /// Takes a turn: waits for it, does the job, and gives the job's answer. The seat then has seen the whole past.
+    /// Takes a turn: waits for it, does the job, and gives the job's answer. The seat then has seen the whole past. It
+    /// refuses nothing, and no clause says that the turn ever comes.
     pub fn call<J: Job<V>, R: Wait>(&self, rt: &R, seat: &mut Seat<V>, job: J) -> J::Answer
         requires latch { IsSeatOf self.now seat.old }
-        requires job { (past : List V.Entry) → IsPrefix seat.old.seen past → J.needs job (V.base self.now.start) seat.old.own past }
+        requires job { MayWorkAfter (J.needs job) (V.base self.now.start) seat.old.own seat.old.seen }
         ensures turn { TakesTurn V.past V.own V.base (J.gives job) self.now.start seat.old seat.new result }
         ensures seen { IsPrefix seat.old.seen seat.new.seen }
     {
@@ -106,7 +106,7 @@ impl<V: Kept> Latch<V> {
     pub fn join(&self, into: &mut Seat<V>, other: Seat<V>)
         requires latch { IsSeatOf self.now into.old }
         requires other { IsSeatOf self.now other }
-        ensures into { into.new ≡ record into.old { seen = longer into.old.seen other.seen; kept = into.old.kept ++ (other.number, other.own) ∷ other.kept } }
+        ensures into { into.new ≡ after_joining into.old other }
         ensures begins { IsPrefix into.old.seen into.new.seen }
         ensures begins_other { IsPrefix other.seen into.new.seen }
     {

@@ -1,9 +1,8 @@
-//! A latch: a lock round one value, whose seats take turns in the order in which they asked.
-//! It stands on `atomic_table` alone: two words, `TICKET` and `SERVING`, and one slot for the value.
-//! The layer above may use `Kept` and `Job`, to be implemented, and `Latch` and `Seat`. It learns that a turn finds a
-//! value whose past begins with all that its seat had seen, and in it the seat's own list as the seat left it.
-//! The invariant is `IsInTurns` of specs/Rule.antt: whatever the interleaving of turns, there is one value, at home or
-//! out with the one seat whose ticket is served, and what every seat knows is true of it.
+//! A latch: a lock round one value, whose seats take turns by tickets. It stands on `atomic_table` alone.
+//! The layer above implements `Kept` and `Job` and uses `Latch` and `Seat`: a turn finds a value whose past begins with all
+//! that its seat had seen, and whose list for the seat is as the seat left it; `close` gives the value with all the lists.
+//! The invariant is `IsInTurns` of specs/Rule.antt: however the turns interleave there is one value, at home or out with
+//! the one seat whose ticket is served, and what each seat knows of it is true.
 #![tactic(auto)]
 
 mod job;

@@ -1,8 +1,7 @@
 //! One turn: a ticket is drawn, the value is awaited, worked on and put back, and the next ticket is served.
-ghost use Rattle.std.specs.Prelude.{◌≡◌, ◌∷◌, [], List, None, Some};
-ghost use mathlib.Core.List.{IsPrefix};
+ghost use Rattle.std.specs.Prelude.{◌≡◌, ◌∷◌, [], None, Some};
 ghost use Rattle.ml_latch.specs.Place.{FitsTable, IsIdle, IsSamePlace, IsWaiting};
-ghost use Rattle.ml_latch.specs.Turn.{Finds, MayBecome, WorksInTurn};
+ghost use Rattle.ml_latch.specs.Turn.{Finds, MayBecome, MayWorkAfter, WorksInTurn};
 ghost use Rattle.ml_latch.specs.View.{after_turn};
 
 use crate::job::Job;
@@ -59,7 +58,7 @@ pub(crate) fn work_in_turn<V: Kept, J: Job<V>, R: Wait>(
     requires table { FitsTable table.now.table_id place.old.table_id }
     requires idle { IsIdle table.now.key.value place.old.me }
     requires number { place.old.me.0.number ≡ number }
-    requires job { (past : List V.Entry) → IsPrefix place.old.me.0.seen past → J.needs job (V.base table.now.key.value) place.old.me.0.own past }
+    requires job { MayWorkAfter (J.needs job) (V.base table.now.key.value) place.old.me.0.own place.old.me.0.seen }
     ensures table { IsSamePlace place.old place.new }
     ensures turn { WorksInTurn V.past V.own V.base (J.gives job) table.now.key.value place.old.me.0 place.new.me result }
 {

@@ -1,4 +1,4 @@
-use Rattle.std.proofs.Common.{rules, arith, ◌≡◌, ◌+◌, ◌<◌, ◌≤◌, ℕ, ap, sym, subst, length, vec_len, Contains}
+use Rattle.std.proofs.Common.{rules, arith, ◌≡◌, ◌+◌, ap, sym, subst, length, vec_len, Contains}
 use Rattle.ml_latch.proofs.Numbering.{last_and_others, took_in_one_more}
 use Rattle.ml_latch.proofs.tests.join_all.Goals as goal
 

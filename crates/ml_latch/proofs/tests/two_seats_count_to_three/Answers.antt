@@ -1,4 +1,4 @@
-use Rattle.std.proofs.Common.{rules, arith, ◌≡◌, ◌<◌, ◌≤◌, ◌+◌, ℕ, zero, suc, List, [], ◌∷◌, ◌++◌, Contains, refl, sym, subst, ap, ◌∙◌}
+use Rattle.std.proofs.Common.{rules, arith, ◌≡◌, ◌<◌, ◌≤◌, ℕ, zero, suc, List, [], ◌∷◌, Contains, refl, sym, subst}
 use Rattle.ml_latch.proofs.tests.two_seats_count_to_three.Goals as goal
 
 both : {N : Type 0} (kept : List (ℕ × List N)) (given : ℕ) (a b : List N) → kept ≡ (1, a) ∷ (2, b) ∷ [] → given ≡ 2 → (n : ℕ) → 0 < n → n ≤ given → (xs : List N) × Contains kept (n, xs)

@@ -1,0 +1,5 @@
+pub mod Bytes
+pub mod Gap
+pub mod Number
+pub mod Quoted
+pub mod Tokens

@@ -1,2 +1,4 @@
 pub mod Digits
 pub mod Gaps
+pub mod Names
+pub mod Fits

@@ -3,3 +3,4 @@ pub mod Gap
 pub mod Number
 pub mod Quoted
 pub mod Tokens
+pub mod Values

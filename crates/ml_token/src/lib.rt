@@ -14,7 +14,9 @@ mod number;
 mod quoted;
 mod scan;
 mod tokens;
+mod values;
 
 pub use limits::{LARGEST_NUMBER, LONGEST_NAME};
 pub use scan::next_token;
 pub use tokens::{Token, TokenFault, TokenFaultKind, TokenKind};
+pub use values::{name_text, number_value};

@@ -1,6 +1,7 @@
 // The next token of a text.
-ghost use Rattle.std.specs.Prelude.{◌≡◌, ◌+◌, ◌≤◌, ◌<◌, ◌^◌, ◌||◌, length};
+ghost use Rattle.std.specs.Prelude.{◌≡◌, ◌+◌, ◌≤◌, ◌<◌, ◌^◌, length, IfOk, IfErr};
 ghost use Rattle.ml_token.specs.Tokens.{sized, faulty, name_of_len, ends_clause, symbols_at, number_at, token_at, first_token};
+ghost use Rattle.ml_token.specs.Values.{StandsIn};
 
 use crate::bytes::{Begun, Run, begun_by, is_layout, run_len};
 use crate::gap::{begins_with, gap_len};
@@ -100,6 +101,8 @@ fn token_at(from: usize, text: &[u8]) -> Result<Token, TokenFault>
 pub fn next_token(bytes: &[u8], at: usize) -> Result<Token, TokenFault>
     requires { at ≤ length bytes.now }
     ensures exact { result ≡ first_token bytes.now at }
+    ensures stands { IfOk result (StandsIn bytes.now at) }
+    ensures place { IfErr result (λ fault. (at ≤ fault.place) × (fault.place < length bytes.now)) }
 {
     let (_, rest) = bytes.split_at(at);
     let gap = gap_len(rest);

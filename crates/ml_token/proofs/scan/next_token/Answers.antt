@@ -1,7 +1,23 @@
-use Rattle.std.proofs.Common.{◌≡◌, ap}
+use Rattle.std.proofs.Common.{◌≡◌, ◌+◌, ◌≤◌, length, drop, length-drop, ap, arith}
 use Rattle.ml_token.specs.Tokens.{first_token}
+use Rattle.ml_token.proofs.Fits.{Fits, fits-first_token, token-stands, fault-stands}
 use Rattle.ml_token.proofs.scan.next_token.Goals as goal
 
-pub returns : goal.returns
+pub returns-clause-exact : goal.returns-clause-exact
 unfolding first_token
-returns c = record { exact = rw (c.token_at.ensures, c.split_at-2.ensures.back, c.gap_len-gap.ensures.len, c.split_at.ensures.back) }
+returns-clause-exact c = rw (c.token_at.ensures, c.split_at-2.ensures.back, c.gap_len-gap.ensures.len, c.split_at.ensures.back)
+
+-- the gap leaves no more than the text has
+within : (c : goal.After-token_at) → c.args.at + c.gap_len-gap.result ≤ length c.args.bytes.now
+within c =
+    let rest : length c.split_at.result.1.now ≡ length (drop c.args.at c.args.bytes.now) = ap length c.split_at.ensures.back in
+    omega (arith, rest, length-drop c.args.at c.args.bytes.now)
+
+fits : (c : goal.After-token_at) → Fits (c.args.at + c.gap_len-gap.result) (drop (c.args.at + c.gap_len-gap.result) c.args.bytes.now) c.token_at.result
+fits c = rw (c.token_at.ensures, c.split_at-2.ensures.back, c.split_at.ensures.back) (fits-first_token c.args.bytes.now c.args.at c.gap_len-gap.result)
+
+pub returns-clause-stands : goal.returns-clause-stands
+returns-clause-stands c = token-stands c.args.bytes.now c.args.at c.gap_len-gap.result c.token_at.result (within c) (fits c)
+
+pub returns-clause-place : goal.returns-clause-place
+returns-clause-place c = fault-stands c.args.bytes.now c.args.at c.gap_len-gap.result c.token_at.result (within c) (fits c)

@@ -1,5 +1,5 @@
 -- A token stands within its text, its value keeps to the limits, and a fault has its place in the text.
-use Rattle.std.proofs.Common.{◌≡◌, ◌≢◌, ℕ, zero, suc, ◌+◌, ◌-◌, ◌<◌, ◌≤◌, Bool, true, false, ◌&&◌, ◌||◌, ◌==◌, nat_le, List, [], ◌∷◌, length, take, drop, refl, sym, ap, ◌∙◌, arith, subst, cond, leb-true, zero-add, codes, Result, Ok, Err, IsTrue, Option, Some, None, IfOk, IfErr}
+use Rattle.std.proofs.Common.{◌≡◌, ◌≢◌, ℕ, zero, suc, ◌+◌, ◌-◌, ◌<◌, ◌≤◌, Bool, true, ◌&&◌, ◌||◌, ◌==◌, nat_le, List, [], ◌∷◌, length, take, drop, refl, sym, arith, subst, leb-true, zero-add, codes, Result, Ok, Err, IsTrue, Option, Some, None, IfOk, IfErr}
 use Rattle.std.specs.List.{list_all, prefix_len}
 use Rattle.std.proofs.Math.Nat.{add-sub_cancel_left}
 use Rattle.std.proofs.lemmas.List.{length-take-le, drop-drop, length-drop}
@@ -14,7 +14,7 @@ use Rattle.ml_token.specs.declared.quoted.Ending.TheVariants.{Closed, LeftOpen, 
 use Rattle.ml_token.specs.declared.tokens.Token.{Token}
 use Rattle.ml_token.specs.declared.tokens.TokenFault.{TokenFault}
 use Rattle.ml_token.specs.declared.tokens.TokenKind.{TokenKind}
-use Rattle.ml_token.specs.declared.tokens.TokenKind.TheVariants.{Name, QuotedName, Variable, Number, Punct, End, Eof}
+use Rattle.ml_token.specs.declared.tokens.TokenKind.TheVariants.{Name, Variable, Number, Punct, End, Eof}
 use Rattle.ml_token.specs.declared.tokens.TokenFaultKind.{TokenFaultKind}
 use Rattle.ml_token.specs.Bytes.{is_small, is_capital, is_digit, is_alphanumeric, is_symbol, is_one_of, in_run, begun_by}
 use Rattle.ml_token.specs.Gap.{begins_with}
@@ -22,8 +22,8 @@ use Rattle.ml_token.specs.Number.{value_of}
 use Rattle.ml_token.specs.Quoted.{IsWithin, part_of, behind_quote, behind_backslash, escaped, escape_of, Inside, inside, with_byte, quoted_end, quoted_name}
 use Rattle.ml_token.specs.declared.quoted.Part.{Part}
 use Rattle.ml_token.specs.declared.quoted.Part.TheVariants.{Spelled, Last}
-use Rattle.ml_token.specs.Tokens.{sized, faulty, name_of_len, number_at, ends_clause, symbols_at, begun_at, token_at, first_token}
-use Rattle.ml_token.specs.Values.{is_name_byte, is_name, spelled, HasValue, StandsIn}
+use Rattle.ml_token.specs.Tokens.{sized, faulty, name_of_len, number_at, ends_clause, symbols_at, begun_at, token_at}
+use Rattle.ml_token.specs.Values.{is_name_byte, is_name, HasValue, StandsIn}
 use Rattle.ml_token.proofs.Names.{both_hold, if_cases, is_one_of-passes, symbol-is_name_byte, alphanumeric-is_name_byte, run-passes, inside-passes}
 
 -- what stands at the place of this text
@@ -33,9 +33,13 @@ Fits from text (Err f) = (from ≤ f.place) × (f.place < from + length text)
 
 fits-sized : (kind : TokenKind) (from len : ℕ) (text : List ℕ) → len ≤ length text → (kind ≢ Eof → 0 < len) → HasValue kind text len
     → Fits from text (sized kind from len)
-fits-sized kind from len text within some value =
-    (refl, omega arith, omega arith, λ other. let filled : 0 < len = some other in omega arith,
-     subst (λ (n : ℕ). HasValue kind text n) (sym (add-sub_cancel_left from len)) value)
+fits-sized kind from len text within some value = (
+  refl,
+  omega arith,
+  omega arith,
+  λ other. let filled : 0 < len = some other in omega arith,
+  subst (λ (n : ℕ). HasValue kind text n) (sym (add-sub_cancel_left from len)) value,
+)
 
 fits-faulty : (kind : TokenFaultKind) (from place : ℕ) (text : List ℕ) → from ≤ place → place < from + length text → Fits from text (faulty kind place)
 fits-faulty kind from place text after before = (after, before)
@@ -48,9 +52,9 @@ fits-name : (kind : TokenKind) (from len : ℕ) (text : List ℕ) → len ≤ le
     → (IsTrue (is_name (take len text)) → HasValue kind text len) → Fits from text (name_of_len kind from len)
 fits-name kind from len text within some all value =
     if_cases (Fits from text) (nat_le len LONGEST_NAME) _ _
-      (λ short. fits-sized kind from len text within (λ other. some)
-        (value (is_name-short (take len text) (subst (λ (n : ℕ). nat_le n LONGEST_NAME ≡ true) (sym (length-take-le len text within)) short) all)))
-      (λ long. (omega arith, omega arith))
+    (λ short. fits-sized kind from len text within (λ other. some)
+    (value (is_name-short (take len text) (subst (λ (n : ℕ). nat_le n LONGEST_NAME ≡ true) (sym (length-take-le len text within)) short) all)))
+    (λ long. (omega arith, omega arith))
 
 -- a run takes some of the text, and no more than there is
 run-some : (p : ℕ → Bool) (b : ℕ) (bs : List ℕ) → p b ≡ true → 0 < prefix_len p (b ∷ bs)
@@ -65,8 +69,8 @@ fits-number from b bs digit =
     let len : ℕ = prefix_len (in_run Digit) text in
     let some : 0 < len = run-some (in_run Digit) b bs digit in
     if_cases (Fits from text) (nat_le (value_of (take len text)) LARGEST_NUMBER) _ _
-      (λ small. fits-sized Number from len text (run-within (in_run Digit) text) (λ other. some) (leb-true (value_of (take len text)) LARGEST_NUMBER small))
-      (λ large. (omega arith, omega arith))
+    (λ small. fits-sized Number from len text (run-within (in_run Digit) text) (λ other. some) (leb-true (value_of (take len text)) LARGEST_NUMBER small))
+    (λ large. (omega arith, omega arith))
 
 -- a name of letters, digits and low lines
 fits-bare : (kind : TokenKind) (from b : ℕ) (bs : List ℕ) → is_alphanumeric b ≡ true
@@ -74,8 +78,8 @@ fits-bare : (kind : TokenKind) (from b : ℕ) (bs : List ℕ) → is_alphanumeri
     → Fits from (b ∷ bs) (name_of_len kind from (prefix_len (in_run Alphanumeric) (b ∷ bs)))
 fits-bare kind from b bs letter value =
     fits-name kind from (prefix_len (in_run Alphanumeric) (b ∷ bs)) (b ∷ bs) (run-within (in_run Alphanumeric) (b ∷ bs))
-      (run-some (in_run Alphanumeric) b bs letter)
-      (run-passes (in_run Alphanumeric) is_name_byte alphanumeric-is_name_byte (b ∷ bs)) value
+    (run-some (in_run Alphanumeric) b bs letter)
+    (run-passes (in_run Alphanumeric) is_name_byte alphanumeric-is_name_byte (b ∷ bs)) value
 
 fits-symbols : (from b : ℕ) (bs : List ℕ) → is_symbol b ≡ true → Fits from (b ∷ bs) (symbols_at from b bs)
 fits-symbols from b bs symbol =
@@ -84,13 +88,13 @@ fits-symbols from b bs symbol =
     let all : prefix_len (in_run Symbol) text ≡ len = rw symbol refl in
     let within : len ≤ length text = omega (arith, run-within (in_run Symbol) bs) in
     if_cases (Fits from text) (b == 46 && ends_clause bs) _ _
-      (λ ends. fits-sized End from 1 text (omega arith) (λ other. omega arith) refl)
-      (λ goes_on. if_cases (Fits from text) (b == 47 && begins_with 42 bs) _ _
-        (λ opens. (omega arith, omega arith))
-        (λ name. fits-name Name from len text within (omega arith)
-          (subst (λ (n : ℕ). list_all is_name_byte (take n text) ≡ true) all
-            (run-passes (in_run Symbol) is_name_byte symbol-is_name_byte text))
-          (λ value. value)))
+    (λ ends. fits-sized End from 1 text (omega arith) (λ other. omega arith) refl)
+    (λ goes_on. if_cases (Fits from text) (b == 47 && begins_with 42 bs) _ _
+    (λ opens. (omega arith, omega arith))
+    (λ name. fits-name Name from len text within (omega arith)
+    (subst (λ (n : ℕ). list_all is_name_byte (take n text) ≡ true) all
+    (run-passes (in_run Symbol) is_name_byte symbol-is_name_byte text))
+    (λ value. value)))
 
 -- an ending leaves this much of the text
 abbrev EndsWithin : Ending → ℕ → ℕ → Type 0
@@ -134,12 +138,12 @@ part-within (b ∷ bs) =
 inside_by : (p : Part) (b : ℕ) (bs : List ℕ) → IsWithin p (length (b ∷ bs))
     → ((k : ℕ) → k ≤ length bs → EndsWithin (inside k bs).ending (k + (inside k bs).width) (length bs))
     → EndsWithin (let i : Inside = elim p [
-        Spelled v n ↦ with_byte v n (inside (n - 1) bs)
+      | Spelled v n ↦ with_byte v n (inside (n - 1) bs)
       | Last ending ↦ record { name = []; width = 0; ending = ending }
-      ] in i.ending) (0 + (let i : Inside = elim p [
-        Spelled v n ↦ with_byte v n (inside (n - 1) bs)
+    ] in i.ending) (0 + (let i : Inside = elim p [
+      | Spelled v n ↦ with_byte v n (inside (n - 1) bs)
       | Last ending ↦ record { name = []; width = 0; ending = ending }
-      ] in i.width)) (length (b ∷ bs))
+    ] in i.width)) (length (b ∷ bs))
 inside_by (Spelled v n) b bs within rest =
     let after : Inside = inside (n - 1) bs in
     ends_within-suc after.ending (n - 1 + after.width) (0 + (n + after.width)) (length bs) (omega arith) (rest (n - 1) (omega arith))
@@ -161,10 +165,10 @@ fits-end from b width bs (Broken kind) within value = (omega arith, omega arith)
 fits-quoted : (from b : ℕ) (bs : List ℕ) → Fits from (b ∷ bs) (quoted_name from bs)
 fits-quoted from b bs =
     if_cases (Fits from (b ∷ bs)) (nat_le (length (inside 0 bs).name) LONGEST_NAME) _ _
-      (λ short. fits-end from b (inside 0 bs).width bs (inside 0 bs).ending
-        (subst (λ (n : ℕ). EndsWithin (inside 0 bs).ending n (length bs)) (zero-add (inside 0 bs).width) (inside-within 0 bs (omega arith)))
-        (is_name-short (inside 0 bs).name short (inside-passes 0 bs)))
-      (λ long. (omega arith, omega arith))
+    (λ short. fits-end from b (inside 0 bs).width bs (inside 0 bs).ending
+    (subst (λ (n : ℕ). EndsWithin (inside 0 bs).ending n (length bs)) (zero-add (inside 0 bs).width) (inside-within 0 bs (omega arith)))
+    (is_name-short (inside 0 bs).name short (inside-passes 0 bs)))
+    (λ long. (omega arith, omega arith))
 
 -- what is known of a byte by what it may begin
 abbrev Tells : ℕ → Begun → Type 0
@@ -214,7 +218,7 @@ pub fits-first_token : (bytes : List ℕ) (at gap : ℕ)
     → Fits (at + gap) (drop (at + gap) bytes) (token_at (at + gap) (drop gap (drop at bytes)))
 fits-first_token bytes at gap =
     subst (λ (text : List ℕ). Fits (at + gap) (drop (at + gap) bytes) (token_at (at + gap) text)) (sym (drop-drop gap at bytes))
-      (fits-token_at (at + gap) (drop (at + gap) bytes))
+    (fits-token_at (at + gap) (drop (at + gap) bytes))
 
 -- what fits stands in the bytes
 stands-in : (bytes : List ℕ) (at gap : ℕ) (t : Token) → at + gap ≤ length bytes → Fits (at + gap) (drop (at + gap) bytes) (Ok t) → StandsIn bytes at t

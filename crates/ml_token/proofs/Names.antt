@@ -1,16 +1,15 @@
 -- What runs and quoted names spell are names.
-use Rattle.std.proofs.Common.{◌≡◌, ℕ, zero, suc, ◌+◌, ◌-◌, ◌<◌, ◌≤◌, Bool, true, false, not, ◌&&◌, ◌||◌, ◌==◌, List, [], ◌∷◌, length, take, drop, get_or, refl, sym, ap, ◌∙◌, arith, subst, codes, eqb-true, Option, nat_le, if◌then◌else◌}
-use Rattle.std.specs.List.{list_all, list_any, prefix_len}
-use Rattle.std.proofs.lemmas.List.{get_or-take, length-take-le}
-use Rattle.std.proofs.lemmas.List.Sums.{list_all-from_AllPass, prefix_len_passes, prefix_len-le-length}
+use Rattle.std.proofs.Common.{◌≡◌, ℕ, zero, suc, ◌-◌, ◌<◌, Bool, true, false, ◌&&◌, ◌||◌, ◌==◌, List, [], ◌∷◌, take, refl, sym, arith, subst, codes, eqb-true, Option, nat_le, if◌then◌else◌}
+use Rattle.std.specs.List.{list_all, prefix_len}
+use Rattle.std.proofs.lemmas.List.{get_or-take}
+use Rattle.std.proofs.lemmas.List.Sums.{list_all-from_AllPass, prefix_len_passes}
 use Rattle.std.proofs.lemmas.List.Folds.{length-prefix_len}
-use Rattle.std.proofs.lemmas.Grind.{common_steps}
 use Rattle.std.proofs.lemmas.Bool.Decides.{nat_tests}
 use Rattle.ml_token.specs.declared.quoted.Part.{Part}
 use Rattle.ml_token.specs.declared.quoted.Part.TheVariants.{Spelled, Last}
-use Rattle.ml_token.specs.Bytes.{is_one_of, is_symbol, is_alphanumeric, is_small, is_capital, is_digit}
+use Rattle.ml_token.specs.Bytes.{is_one_of, is_symbol, is_alphanumeric}
 use Rattle.ml_token.specs.Quoted.{Inside, part_of, behind_quote, behind_backslash, escaped, escape_of, inside, with_byte}
-use Rattle.ml_token.specs.Values.{is_name_byte, is_name}
+use Rattle.ml_token.specs.Values.{is_name_byte}
 
 -- cases of a choice, each with what its test says
 pub if_cases : {A : Type 0} (P : A → Type 0) (c : Bool) (x y : A) → (c ≡ true → P x) → (c ≡ false → P y) → P (if c then x else y)
@@ -91,9 +90,9 @@ both_hold a b e f = cc
 
 inside_by : (p : Part) (bs : List ℕ) → SpellsNameByte p → ((k : ℕ) → list_all is_name_byte (inside k bs).name ≡ true)
     → list_all is_name_byte (let i : Inside = elim p [
-        Spelled v n ↦ with_byte v n (inside (n - 1) bs)
+      | Spelled v n ↦ with_byte v n (inside (n - 1) bs)
       | Last ending ↦ record { name = []; width = 0; ending = ending }
-      ] in i.name) ≡ true
+    ] in i.name) ≡ true
 inside_by (Spelled v n) bs spells rest = both_hold (is_name_byte v) (list_all is_name_byte (inside (n - 1) bs).name) spells (rest (n - 1))
 inside_by (Last ending) bs spells rest = refl
 

@@ -72,9 +72,9 @@ abbrev pub inside : ℕ → List ℕ → Inside
 inside skip [] = record { name = []; width = 0; ending = LeftOpen }
 inside (suc k) (b ∷ bs) = inside k bs
 inside zero (b ∷ bs) = elim (part_of (b ∷ bs)) [
-    Spelled v n ↦ with_byte v n (inside (n - 1) bs)
+  | Spelled v n ↦ with_byte v n (inside (n - 1) bs)
   | Last ending ↦ record { name = []; width = 0; ending = ending }
-  ]
+]
 
 -- what an ending makes of a name whose quote stands at `from`, and whose text between the quotes took this width
 abbrev pub quoted_end : ℕ → ℕ → Ending → Result Token TokenFault

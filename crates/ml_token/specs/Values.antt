@@ -1,5 +1,5 @@
 -- What tokens stand for: names and numbers.
-use Rattle.std.specs.Prelude.{◌≡◌, ◌≢◌, ◌≤◌, ◌<◌, ℕ, ◌+◌, ◌-◌, Bool, ◌&&◌, ◌||◌, nat_le, IsTrue, List, length, take, drop}
+use Rattle.std.specs.Prelude.{◌≡◌, ◌≢◌, ◌≤◌, ◌<◌, ℕ, ◌-◌, Bool, ◌&&◌, ◌||◌, nat_le, IsTrue, List, length, take, drop}
 use Rattle.std.specs.List.{list_all}
 use Rattle.ml_token.specs.declared.limits.TheConstants.{LONGEST_NAME, LARGEST_NUMBER}
 use Rattle.ml_token.specs.declared.tokens.Token.{Token}

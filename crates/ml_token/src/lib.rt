@@ -13,6 +13,8 @@ mod limits;
 mod number;
 mod quoted;
 mod scan;
+#[cfg(test)]
+mod tests;
 mod tokens;
 mod values;
 

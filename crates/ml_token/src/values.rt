@@ -3,12 +3,11 @@ ghost use Rattle.std.specs.Prelude.{◌≡◌, ◌-◌, ◌≤◌, length, take,
 ghost use Rattle.ml_token.specs.Quoted.{inside};
 ghost use Rattle.ml_token.specs.Values.{name_of, number_of};
 
-use std::alloc::{AllocError, Global};
-
 use crate::limits::LARGEST_NUMBER;
 use crate::number::small_number;
 use crate::quoted::{Part, part_of};
 use crate::tokens::{Token, TokenKind};
+use std::alloc::{AllocError, Global};
 
 // The bytes of a token.
 fn bytes_of<'a>(bytes: &'a [u8], token: &Token) -> &'a [u8]

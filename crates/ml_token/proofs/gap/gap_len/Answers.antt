@@ -1,5 +1,5 @@
-use Rattle.std.proofs.Common.{◌≡◌, ◌+◌, ◌≤◌, ◌≢◌, ◌∙◌, length, drop, length-drop, arith, subst, ℕ}
-use Rattle.ml_token.specs.Gap.{piece_len, gap_len}
+use Rattle.std.proofs.Common.{◌≤◌, ◌≢◌, ◌∙◌, length, length-drop, arith}
+use Rattle.ml_token.specs.Gap.{piece_len}
 use Rattle.ml_token.proofs.Gaps.{gap_len-piece}
 use Rattle.ml_token.proofs.gap.gap_len.Goals as goal
 

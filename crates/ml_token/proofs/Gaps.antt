@@ -3,7 +3,7 @@ use Rattle.std.proofs.Common.{◌≡◌, ℕ, zero, suc, ◌+◌, ◌≤◌, ◌
 use Rattle.ml_token.specs.Gap.{piece_len, gap_len}
 
 -- the bytes of a comment that was begun are passed over
-gap_len-skip : (k : ℕ) (bs : List ℕ) → k ≤ length bs → gap_len k bs ≡ k + gap_len 0 (drop k bs)
+pub gap_len-skip : (k : ℕ) (bs : List ℕ) → k ≤ length bs → gap_len k bs ≡ k + gap_len 0 (drop k bs)
 gap_len-skip zero bs within = omega arith
 gap_len-skip (suc k) [] within = absurd (omega arith)
 gap_len-skip (suc k) (b ∷ bs) within =

@@ -2,3 +2,6 @@ pub mod Digits
 pub mod Gaps
 pub mod Names
 pub mod Fits
+pub mod Runs
+pub mod Complete
+pub mod Total

@@ -17,7 +17,7 @@ if_cases P true x y holds fails = holds refl
 if_cases P false x y holds fails = fails refl
 
 -- two tests hold that hold together
-both : (a b : Bool) → (a && b) ≡ true → (a ≡ true) × (b ≡ true)
+pub both : (a b : Bool) → (a && b) ≡ true → (a ≡ true) × (b ≡ true)
 both true b e = (refl, e)
 both false b e = absurd (let clash : false ≡ true = e in cc)
 

@@ -3,4 +3,5 @@ pub mod Gap
 pub mod Number
 pub mod Quoted
 pub mod Tokens
+pub mod Language
 pub mod Values

@@ -1,5 +1,8 @@
 // The next token of a text.
-ghost use Rattle.std.specs.Prelude.{◌≡◌, ◌+◌, ◌≤◌, ◌<◌, ◌^◌, length, IfOk, IfErr};
+ghost use Rattle.std.specs.Prelude.{◌≡◌, ◌↔◌, ◌+◌, ◌≤◌, ◌<◌, ◌^◌, length, IfOk, IfErr};
+ghost use Rattle.ml_token.specs.declared.tokens.Token.{Token};
+ghost use Rattle.ml_token.specs.declared.tokens.TokenFault.{TokenFault};
+ghost use Rattle.ml_token.specs.Language.{HasToken, HasFault};
 ghost use Rattle.ml_token.specs.Tokens.{sized, faulty, name_of_len, ends_clause, symbols_at, number_at, token_at, first_token};
 ghost use Rattle.ml_token.specs.Values.{StandsIn};
 
@@ -100,6 +103,8 @@ fn token_at(from: usize, text: &[u8]) -> Result<Token, TokenFault>
 /// Nothing is kept from one call to the next: a text is read by calls at the end of the token before.
 pub fn next_token(bytes: &[u8], at: usize) -> Result<Token, TokenFault>
     requires { at ≤ length bytes.now }
+    ensures token { (t : Token) → (result ≡ Ok t) ↔ HasToken bytes.now at t }
+    ensures fault { (f : TokenFault) → (result ≡ Err f) ↔ HasFault bytes.now at f }
     ensures exact { result ≡ first_token bytes.now at }
     ensures stands { IfOk result (StandsIn bytes.now at) }
     ensures place { IfErr result (λ fault. (at ≤ fault.place) × (fault.place < length bytes.now)) }

@@ -1,11 +1,22 @@
-use Rattle.std.proofs.Common.{◌≡◌, ◌+◌, ◌≤◌, length, drop, length-drop, ap, arith}
+use Rattle.std.proofs.Common.{◌≡◌, ◌+◌, ◌≤◌, length, drop, length-drop, ap, sym, ◌∙◌, arith}
 use Rattle.ml_token.specs.Tokens.{first_token}
+use Rattle.ml_token.proofs.Complete.{token-only, fault-only}
+use Rattle.ml_token.proofs.Total.{token-found, fault-found}
 use Rattle.ml_token.proofs.Fits.{Fits, fits-first_token, token-stands, fault-stands}
 use Rattle.ml_token.proofs.scan.next_token.Goals as goal
 
-pub returns-clause-exact : goal.returns-clause-exact
+exact : (c : goal.After-token_at) → c.token_at.result ≡ first_token c.args.bytes.now c.args.at
 unfolding first_token
-returns-clause-exact c = rw (c.token_at.ensures, c.split_at-2.ensures.back, c.gap_len-gap.ensures.len, c.split_at.ensures.back)
+exact c = rw (c.token_at.ensures, c.split_at-2.ensures.back, c.gap_len-gap.ensures.len, c.split_at.ensures.back)
+
+pub returns-clause-exact : goal.returns-clause-exact
+returns-clause-exact c = exact c
+
+pub returns-clause-token : goal.returns-clause-token
+returns-clause-token c = λ t. (λ is. token-found c.args.bytes.now c.args.at t (sym (exact c) ∙ is), λ has. exact c ∙ token-only c.args.bytes.now c.args.at t has)
+
+pub returns-clause-fault : goal.returns-clause-fault
+returns-clause-fault c = λ f. (λ is. fault-found c.args.bytes.now c.args.at f (sym (exact c) ∙ is), λ has. exact c ∙ fault-only c.args.bytes.now c.args.at f has)
 
 -- the gap leaves no more than the text has
 within : (c : goal.After-token_at) → c.args.at + c.gap_len-gap.result ≤ length c.args.bytes.now

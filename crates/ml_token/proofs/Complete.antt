@@ -104,7 +104,7 @@ begun-is from b bs k is = ap (λ (x : Begun). begun_at from x b bs) is
 abbrev quoted_by : ℕ → Inside → Result Token TokenFault
 quoted_by from q = if nat_le (length q.name) LONGEST_NAME then quoted_end from q.width q.ending else Err (record { place = from; kind = NameTooLong })
 
-inside-ends : {text name : List ℕ} (rest : List ℕ) (e : Ending) → Spells text name → part_of rest ≡ Last e
+pub inside-ends : {text name : List ℕ} (rest : List ℕ) (e : Ending) → Spells text name → part_of rest ≡ Last e
     → inside 0 (text ++ rest) ≡ record { name = name; width = length text; ending = e }
 inside-ends {text = text} {name = name} rest e spells last =
     let nothing : Inside = record { name = []; width = 0; ending = e } in
@@ -162,7 +162,7 @@ alphanumeric-small b is = grind (arith, nat_tests)
 alphanumeric-capital : (b : ℕ) → (is_capital b || b == 95) ≡ true → is_alphanumeric b ≡ true
 alphanumeric-capital b is = grind (arith, nat_tests)
 
-quote-closed : (rest : List ℕ) → begins_with 39 rest ≡ false → part_of (39 ∷ rest) ≡ Last Closed
+pub quote-closed : (rest : List ℕ) → begins_with 39 rest ≡ false → part_of (39 ∷ rest) ≡ Last Closed
 quote-closed [] is = refl
 quote-closed (b ∷ bs) is = rw is refl
 

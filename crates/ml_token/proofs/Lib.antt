@@ -5,3 +5,4 @@ pub mod Fits
 pub mod Runs
 pub mod Complete
 pub mod Total
+pub mod Spelled

@@ -1,6 +1,6 @@
 -- The language of tokens as a grammar, and the first defect where there is none. It speaks of whole lists of bytes, and
 -- knows nothing of how a text is read.
-use Rattle.std.specs.Prelude.{◌≡◌, ◌<◌, ◌≤◌, ℕ, ◌+◌, Bool, true, false, ◌||◌, ◌&&◌, ◌==◌, not, nat_le, List, [], ◌∷◌, ◌++◌, length, drop, Some, None, codes}
+use Rattle.std.specs.Prelude.{◌≡◌, ◌≢◌, ◌<◌, ◌≤◌, ℕ, ◌+◌, Bool, true, false, ◌||◌, ◌&&◌, ◌==◌, not, nat_le, List, [], ◌∷◌, ◌++◌, length, drop, Some, None, codes}
 use Rattle.std.specs.List.{list_all}
 use Rattle.ml_token.specs.declared.limits.TheConstants.{LONGEST_NAME, LARGEST_NUMBER}
 use Rattle.ml_token.specs.declared.tokens.Token.{Token}
@@ -53,6 +53,11 @@ pub data Spells : List ℕ → List ℕ → Type 0 where
   plain : {b : ℕ} {text name : List ℕ} → is_plain b ≡ true → Spells text name → Spells (b ∷ text) (b ∷ name)
   two_quotes : {text name : List ℕ} → Spells text name → Spells (39 ∷ 39 ∷ text) (39 ∷ name)
   escape : {b v : ℕ} {text name : List ℕ} → escape_of b ≡ Some v → Spells text name → Spells (92 ∷ b ∷ text) (v ∷ name)
+
+-- a token's text spells the name: a quoted name's what stands between its quotes, any other token's itself
+pub data SpellsName : TokenKind → List ℕ → List ℕ → Type 0 where
+  bare : {kind : TokenKind} {text : List ℕ} → kind ≢ QuotedName → SpellsName kind text text
+  between_quotes : {text name : List ℕ} → Spells text name → SpellsName QuotedName (39 ∷ (text ++ 39 ∷ [])) name
 
 -- the text is a token of the kind where the rest follows
 pub data IsToken : TokenKind → List ℕ → List ℕ → Type 0 where

@@ -25,9 +25,13 @@ spelled kind text len = take len text
 abbrev pub name_of : List ℕ → Token → List ℕ
 name_of bytes t = spelled t.kind (drop t.from bytes) (t.to - t.from)
 
+-- the bytes of a token
+abbrev pub text_of : List ℕ → Token → List ℕ
+text_of bytes t = take (t.to - t.from) (drop t.from bytes)
+
 -- the number that a token's digits spell
 abbrev pub number_of : List ℕ → Token → ℕ
-number_of bytes t = value_of (take (t.to - t.from) (drop t.from bytes))
+number_of bytes t = value_of (text_of bytes t)
 
 -- names and numbers keep to their limits, in a token whose bytes are the first `len` of the text
 abbrev pub HasValue : TokenKind → List ℕ → ℕ → Type 0

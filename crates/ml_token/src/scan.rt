@@ -2,9 +2,9 @@
 ghost use Rattle.std.specs.Prelude.{◌≡◌, ◌↔◌, ◌+◌, ◌≤◌, ◌<◌, ◌^◌, length, IfOk, IfErr};
 ghost use Rattle.ml_token.specs.declared.tokens.Token.{Token};
 ghost use Rattle.ml_token.specs.declared.tokens.TokenFault.{TokenFault};
-ghost use Rattle.ml_token.specs.Language.{HasToken, HasFault};
+ghost use Rattle.ml_token.specs.Language.{HasToken, HasFault, SpellsName};
 ghost use Rattle.ml_token.specs.Tokens.{sized, faulty, name_of_len, ends_clause, symbols_at, number_at, token_at, first_token};
-ghost use Rattle.ml_token.specs.Values.{StandsIn};
+ghost use Rattle.ml_token.specs.Values.{text_of, name_of, StandsIn};
 
 use crate::bytes::{Begun, Run, begun_by, is_layout, run_len};
 use crate::gap::{begins_with, gap_len};
@@ -106,6 +106,7 @@ pub fn next_token(bytes: &[u8], at: usize) -> Result<Token, TokenFault>
     ensures token { (t : Token) → (result ≡ Ok t) ↔ HasToken bytes.now at t }
     ensures fault { (f : TokenFault) → (result ≡ Err f) ↔ HasFault bytes.now at f }
     ensures exact { result ≡ first_token bytes.now at }
+    ensures name { IfOk result (λ t. SpellsName t.kind (text_of bytes.now t) (name_of bytes.now t)) }
     ensures stands { IfOk result (StandsIn bytes.now at) }
     ensures place { IfErr result (λ fault. (at ≤ fault.place) × (fault.place < length bytes.now)) }
 {

@@ -1,7 +1,7 @@
 // What tokens stand for.
-ghost use Rattle.std.specs.Prelude.{◌≡◌, ◌-◌, ◌≤◌, length, take, drop, IfOk};
+ghost use Rattle.std.specs.Prelude.{◌≡◌, ◌≤◌, length, IfOk};
 ghost use Rattle.ml_token.specs.Quoted.{inside};
-ghost use Rattle.ml_token.specs.Values.{name_of, number_of};
+ghost use Rattle.ml_token.specs.Values.{text_of, name_of, number_of};
 
 use crate::limits::LARGEST_NUMBER;
 use crate::number::small_number;
@@ -13,7 +13,7 @@ use std::alloc::{AllocError, Global};
 fn bytes_of<'a>(bytes: &'a [u8], token: &Token) -> &'a [u8]
     requires ordered { token.now.from ≤ token.now.to }
     requires within { token.now.to ≤ length bytes.now }
-    ensures { result.now ≡ take (token.now.to - token.now.from) (drop token.now.from bytes.now) }
+    ensures { result.now ≡ text_of bytes.now token.now }
 {
     let (_, rest) = bytes.split_at(token.from);
     let (text, _) = rest.split_at(token.to - token.from);

@@ -2,6 +2,7 @@ use Rattle.std.proofs.Common.{◌≡◌, ◌+◌, ◌≤◌, length, drop, lengt
 use Rattle.ml_token.specs.Tokens.{first_token}
 use Rattle.ml_token.proofs.Complete.{token-only, fault-only}
 use Rattle.ml_token.proofs.Total.{token-found, fault-found}
+use Rattle.ml_token.proofs.Spelled.{found-spelled}
 use Rattle.ml_token.proofs.Fits.{Fits, fits-first_token, token-stands, fault-stands}
 use Rattle.ml_token.proofs.scan.next_token.Goals as goal
 
@@ -32,3 +33,6 @@ returns-clause-stands c = token-stands c.args.bytes.now c.args.at c.gap_len-gap.
 
 pub returns-clause-place : goal.returns-clause-place
 returns-clause-place c = fault-stands c.args.bytes.now c.args.at c.gap_len-gap.result c.token_at.result (within c) (fits c)
+
+pub returns-clause-name : goal.returns-clause-name
+returns-clause-name c = found-spelled c.args.bytes.now c.args.at c.token_at.result (exact c)

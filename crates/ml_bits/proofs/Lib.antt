@@ -1,0 +1,6 @@
+pub mod Lists
+pub mod WordBits
+pub mod WordOrder
+pub mod Packed
+pub mod PackedOrder
+pub mod Common

@@ -2,14 +2,15 @@
 use Rattle.std.proofs.Common.{◌≡◌, ℕ, zero, suc, ◌+◌, ◌-◌, ◌*◌, ◌/◌, ◌%◌, ◌^◌, ◌<◌, ◌≤◌, Bool, true, false, eqb, List, [], ◌∷◌, ◌++◌, length, get_or, set, take, drop, replicate, refl, sym, ap, ◌∙◌, subst, arith, zero-add, append_assoc, length-append}
 use Rattle.std.specs.List.{flat_map}
 use Rattle.std.specs.Int.{bit_at}
-use Rattle.std.specs.Int.RustNames.{bit_or}
-use Rattle.std.proofs.lemmas.List.{append-nil, take-append-drop, take_at, drop_at, take_more, take_all, set_at, length-replicate, length-take-le, length_push, get_or_append_left, get_or-append-add, take-append-le, drop_all}
+use Rattle.std.specs.Int.RustNames.{bit_or, bit_and}
+use Rattle.std.proofs.lemmas.Nat.Bits.{shr_and_one}
+use Rattle.std.proofs.lemmas.List.{append-nil, take-append-drop, take_at, drop_at, take_more, take_all, take-take, set_at, length-replicate, length-take-le, length_push, get_or_append_left, get_or-append-add, take-append-le, get_or-take, drop_all}
 use Rattle.std.proofs.lemmas.List.Concat.{flat_map-append}
-use Rattle.std.proofs.lemmas.Nat.{shl_whole, shl_below, or_shifted, shr_split, mod_below, pow_pos}
+use Rattle.std.proofs.lemmas.Nat.{shl_whole, shl_below, or_shifted, shr_split, mod_below, pow_pos, shr_below}
 use Rattle.ml_bits.specs.BitList.{bits_of}
-use Rattle.ml_bits.specs.Packing.{word_bits, packed_bits, IsPacked}
+use Rattle.ml_bits.specs.Packing.{word_bits, packed_bits, IsPacked, Holds}
 use Rattle.ml_bits.proofs.Lists.{same_parts}
-use Rattle.ml_bits.proofs.WordBits.{bits_of-none, length-bits_of, bits_of_cat, bits_of_split, bits_of_zero, bits_of_mod, bits_of_shifted}
+use Rattle.ml_bits.proofs.WordBits.{bits_of-none, get_or-bits_of, length-bits_of, bits_of_cat, bits_of_split, bits_of_zero, bits_of_mod, bits_of_shifted}
 use Rattle.ml_bits.proofs.WordOrder.{same_from_bits_of}
 
 pub length-word_bits : (ws : List ℕ) → length (word_bits ws) ≡ 64 * length ws
@@ -51,10 +52,6 @@ spells ws len p = record {
 
 pub length-packed_bits : (ws : List ℕ) (len : ℕ) → IsPacked ws len → length (packed_bits ws len) ≡ len
 length-packed_bits ws len p = length-take-le len (word_bits ws) (omega (arith, length-word_bits ws, p.enough))
-
-pub record Holds (words : List ℕ) (len : ℕ) (bits : List Bool) : Type 0 where
-  pub packed : IsPacked words len
-  pub held : packed_bits words len ≡ bits
 
 pub holds : (ws : List ℕ) (bits : List Bool) (spare len : ℕ) → Spells ws bits spare → length bits ≡ len → Holds ws len bits
 holds ws bits spare len s e =
@@ -115,9 +112,9 @@ set_last : (ws : List ℕ) (n w : ℕ) → suc n ≡ length ws → set ws n w �
 set_last ws n w e = ap (λ x. set x n w) (last_apart ws n e) ∙ set_at (take n ws) (get_or ws n 0) [] w n (length-take-le n ws (omega arith))
 
 -- c more bits go to the last word
-pub fill_last : (ws : List ℕ) (len n c v : ℕ) → IsPacked ws len → suc n ≡ length ws → c ≤ 64 * length ws - len → v < 2 ^ c
+filled_last : (ws : List ℕ) (len n c v : ℕ) → IsPacked ws len → suc n ≡ length ws → c ≤ 64 * length ws - len → v < 2 ^ c
   → Holds (set ws n (bit_or (get_or ws n 0) (v * 2 ^ (64 * length ws - len - c) % 2 ^ 64))) (len + c) (packed_bits ws len ++ bits_of c v)
-fill_last ws len n c v p e h g =
+filled_last ws len n c v p e h g =
     let s : ℕ = 64 * length ws - len in
     let bits : List Bool = packed_bits ws len in
     let front : List ℕ = take n ws in
@@ -154,9 +151,9 @@ start_word ws c v l h =
     holds (ws ++ w ∷ []) (word_bits ws ++ bits_of c v) (64 - c) (64 * length ws + c) (record { below = omega arith; spelled = spelled }) long
 
 -- the bits of the last word that are not used become 0
-pub clear_rest : (ws : List ℕ) (len n : ℕ) → suc n ≡ length ws → len ≤ 64 * length ws → 64 * length ws < len + 64
+cleared_rest : (ws : List ℕ) (len n : ℕ) → suc n ≡ length ws → len ≤ 64 * length ws → 64 * length ws < len + 64
   → Holds (set ws n (get_or ws n 0 / 2 ^ (64 * length ws - len) * 2 ^ (64 * length ws - len) % 2 ^ 64)) len (packed_bits ws len)
-clear_rest ws len n e h g =
+cleared_rest ws len n e h g =
     let s : ℕ = 64 * length ws - len in
     let small : s < 64 = omega arith in
     let front : List ℕ = take n ws in
@@ -185,3 +182,76 @@ full_words ws len e = record {
   };
   held = refl;
 }
+
+-- ---- the same, as the program computes it
+
+pub fill_last : (ws : List ℕ) (len n s w c v : ℕ) → IsPacked ws len → suc n ≡ length ws → s ≡ 64 * length ws - len → w ≡ get_or ws n 0 → c ≤ s → v < 2 ^ c
+  → Holds (set ws n (bit_or w (v * 2 ^ (s - c) % 2 ^ 64))) (len + c) (packed_bits ws len ++ bits_of c v)
+fill_last ws len n s w c v p e s_is w_is h g = rw (s_is, w_is) (filled_last ws len n c v p e (omega arith) g)
+
+pub clear_rest : (ws : List ℕ) (len n s w : ℕ) → suc n ≡ length ws → s ≡ 64 * length ws - len → w ≡ get_or ws n 0 → len ≤ 64 * length ws → 64 * length ws < len + 64
+  → Holds (set ws n (w / 2 ^ s * 2 ^ s % 2 ^ 64)) len (packed_bits ws len)
+clear_rest ws len n s w e s_is w_is h g = rw (s_is, w_is) (cleared_rest ws len n e h g)
+
+-- no bits more
+pub nothing_more : (ws : List ℕ) (len c v : ℕ) → IsPacked ws len → c ≡ 0 → Holds ws (len + c) (packed_bits ws len ++ bits_of c v)
+nothing_more ws len c v p e =
+    let place : len + c ≡ len = omega arith in
+    let none : bits_of c v ≡ [] = ap (λ k. bits_of k v) e ∙ bits_of-none v in
+    let same : packed_bits ws len ≡ packed_bits ws len ++ bits_of c v = sym (ap (λ r. packed_bits ws len ++ r) none ∙ append-nil (packed_bits ws len)) in
+    rw place (record { packed = p; held = same })
+
+-- the bits of full words and of a new one
+pub append_full : (ws us : List ℕ) (len s c v : ℕ) → IsPacked ws len → s ≡ 0 → s ≡ 64 * length ws - len → Holds us (64 * length ws + (c - s)) (word_bits ws ++ bits_of (c - s) v)
+  → Holds us (len + c) (packed_bits ws len ++ bits_of c v)
+append_full ws us len s c v p s_zero s_is h =
+    let place : 64 * length ws + (c - s) ≡ len + c = omega (arith, p.enough) in
+    let count : c - s ≡ c = omega arith in
+    let whole : word_bits ws ≡ packed_bits ws len = sym (take_all len (word_bits ws) (omega (arith, length-word_bits ws, p.enough))) in
+    let bits : word_bits ws ++ bits_of (c - s) v ≡ packed_bits ws len ++ bits_of c v = ap (λ r. r ++ bits_of (c - s) v) whole ∙ ap (λ k. packed_bits ws len ++ bits_of k v) count in
+    subst (λ n. Holds us n (packed_bits ws len ++ bits_of c v)) place (subst (Holds us (64 * length ws + (c - s))) bits h)
+
+-- the bits of a last word that was filled, and of a new one
+pub append_across : (ws vs us : List ℕ) (len s c v : ℕ) → IsPacked ws len → s < c → s ≡ 64 * length ws - len → length vs ≡ length ws
+  → Holds vs (len + s) (packed_bits ws len ++ bits_of s (v / 2 ^ (c - s))) → Holds us (64 * length vs + (c - s)) (word_bits vs ++ bits_of (c - s) v)
+  → Holds us (len + c) (packed_bits ws len ++ bits_of c v)
+append_across ws vs us len s c v p l s_is e f h =
+    let place : 64 * length vs + (c - s) ≡ len + c = omega (arith, p.enough) in
+    let whole : word_bits vs ≡ packed_bits ws len ++ bits_of s (v / 2 ^ (c - s)) =
+        sym (take_all (len + s) (word_bits vs) (omega (arith, length-word_bits vs, p.enough))) ∙ f.held in
+    let width : s + (c - s) ≡ c = omega arith in
+    let split : bits_of s (v / 2 ^ (c - s)) ++ bits_of (c - s) v ≡ bits_of c v =
+        sym (ap (λ k. bits_of k v) (sym width) ∙ bits_of_split s (c - s) v ∙ ap (λ r. bits_of s (v / 2 ^ (c - s)) ++ r) (bits_of_mod (c - s) v)) in
+    let bits : word_bits vs ++ bits_of (c - s) v ≡ packed_bits ws len ++ bits_of c v =
+        ap (λ r. r ++ bits_of (c - s) v) whole ∙ append_assoc (packed_bits ws len) (bits_of s (v / 2 ^ (c - s))) (bits_of (c - s) v) ∙ ap (λ r. packed_bits ws len ++ r) split in
+    subst (λ n. Holds us n (packed_bits ws len ++ bits_of c v)) place (subst (Holds us (64 * length vs + (c - s))) bits h)
+
+-- the first bits of the first words that hold them
+pub packed_bits_take : (ws : List ℕ) (n len : ℕ) → len ≤ 64 * n → n ≤ length ws → packed_bits (take n ws) len ≡ packed_bits ws len
+packed_bits_take ws n len h g = ap (take len) (word_bits_take n ws g) ∙ take-take len (64 * n) (word_bits ws) h
+
+-- what is left of a number without its lowest bits
+pub high_part : (v c s : ℕ) → s < c → v < 2 ^ c → v / 2 ^ (c - s) < 2 ^ s
+high_part v c s l h =
+    let width : s + (c - s) ≡ c = omega arith in
+    shr_below v s (c - s) (subst (λ k. v < 2 ^ k) (sym width) h)
+
+pub length_held : (ws : List ℕ) (len : ℕ) (bits : List Bool) → IsPacked ws len → packed_bits ws len ≡ bits → length bits ≡ len
+length_held ws len bits p e = sym (ap length e) ∙ length-packed_bits ws len p
+
+-- the bit at place i is read from word i / 64
+pub bit_read : (ws : List ℕ) (len i w : ℕ) (bits : List Bool) → i < len → i / 64 < length ws → w ≡ get_or ws (i / 64) 0 → packed_bits ws len ≡ bits
+  → eqb (bit_and (w / 2 ^ (63 - i % 64)) 1) 1 ≡ get_or bits i false
+bit_read ws len i w bits h g w_is e =
+    let r : ℕ = i % 64 in
+    let m : ℕ = 63 - r in
+    let near : r < 64 = omega arith in
+    let place : 64 * (i / 64) + r ≡ i = omega arith in
+    let weight : r + suc m ≡ 64 = omega arith in
+    ap (λ x. eqb x 1) (shr_and_one w m)
+      ∙ sym (get_or-bits_of 64 w r m false weight)
+      ∙ ap (λ x. get_or (bits_of 64 x) r false) w_is
+      ∙ sym (get_or-word_bits ws (i / 64) r false g near)
+      ∙ ap (λ x. get_or (word_bits ws) x false) place
+      ∙ sym (get_or-take len (word_bits ws) i false h)
+      ∙ ap (λ bs. get_or bs i false) e

@@ -1,9 +1,13 @@
 -- The bits of a number, as a list.
-use Rattle.std.proofs.Common.{◌≡◌, ℕ, zero, suc, ◌+◌, ◌-◌, ◌*◌, ◌/◌, ◌%◌, ◌^◌, ◌<◌, ◌≤◌, Bool, true, false, eqb, List, [], ◌∷◌, ◌++◌, length, get_or, replicate, refl, sym, ap, ◌∙◌, subst, arith, zero-add}
+use Rattle.std.proofs.Common.{◌≡◌, ℕ, zero, suc, ◌+◌, ◌-◌, ◌*◌, ◌/◌, ◌%◌, ◌^◌, ◌<◌, ◌≤◌, Bool, true, false, eqb, List, [], ◌∷◌, ◌++◌, length, get_or, take, replicate, refl, sym, ap, ◌∙◌, subst, arith, zero-add, length-append}
 use Rattle.std.specs.Int.{bit_at}
-use Rattle.std.proofs.lemmas.Nat.{shr_split, mod_below, pow_pos}
+use Rattle.std.proofs.lemmas.Nat.{shr_split, mod_below, pow_pos, shl_whole, or_shifted, pow-add}
+use Rattle.std.proofs.lemmas.List.{append-nil, take_more}
+use Rattle.std.proofs.lemmas.List.Concat.{flat_map-append}
+use Rattle.std.specs.Int.RustNames.{bit_or}
+use mir.Val.{bool_byte}
 use Rattle.std.proofs.lemmas.Nat.Bits.{bit_at_cat_low, bit_at_cat_high, bit_at-zero}
-use Rattle.ml_bits.specs.BitList.{bits_of}
+use Rattle.ml_bits.specs.BitList.{bits_of, byte_bits}
 
 pub bits_of-suc : (k n : ℕ) → bits_of (suc k) n ≡ eqb (bit_at n k) 1 ∷ bits_of k n
 unfolding bits_of
@@ -69,3 +73,36 @@ pub bits_of_shifted : (j k a : ℕ) → bits_of (j + k) (a * 2 ^ k) ≡ bits_of 
 bits_of_shifted j k a =
     let sum : a * 2 ^ k ≡ a * 2 ^ k + 0 = omega arith in
     ap (bits_of (j + k)) sum ∙ bits_of_cat j k a 0 (pow_pos k) ∙ ap (λ r. bits_of j a ++ r) (bits_of_zero k)
+
+-- ---- a number made of bytes
+
+-- a number whose bits are those of the first bytes
+pub record IsNumberOf (bytes : List ℕ) (count n : ℕ) : Type 0 where
+  pub below : n < 2 ^ (8 * count)
+  pub bits : bits_of (8 * count) n ≡ byte_bits (take count bytes)
+
+byte_more : (n k b : ℕ) → n < 2 ^ k → b < 2 ^ 8 → n * 2 ^ 8 + b < 2 ^ (k + 8)
+byte_more n k b l g = let split : 2 ^ (k + 8) ≡ 2 ^ k * 2 ^ 8 = pow-add 2 k 8 in omega (arith, split)
+
+-- one more byte
+pub number_more : (bytes : List ℕ) (i n b m : ℕ) → i < length bytes → i < 8 → b ≡ get_or bytes i 0 → b < 256
+  → n < 2 ^ (8 * i) → bits_of (8 * i) n ≡ byte_bits (take i bytes) → m ≡ bit_or (n * 256 % 2 ^ 64) b → IsNumberOf bytes (i + 1) m
+number_more bytes i n b m here short read g l e m_is =
+    let k : ℕ = 8 * i in
+    let fits : k + 8 ≤ 64 = omega arith in
+    let whole : n * 2 ^ 8 % 2 ^ 64 ≡ n * 2 ^ 8 = shl_whole n k 8 64 l fits in
+    let value : m ≡ n * 2 ^ 8 + b = m_is ∙ ap (λ x. bit_or x b) whole ∙ or_shifted n 8 b g in
+    let width : 8 * (i + 1) ≡ k + 8 = omega arith in
+    let more : take (i + 1) bytes ≡ take i bytes ++ b ∷ [] = take_more bytes i 0 here ∙ ap (λ x. take i bytes ++ x ∷ []) (sym read) in
+    let last : byte_bits (take (i + 1) bytes) ≡ byte_bits (take i bytes) ++ bits_of 8 b =
+        ap byte_bits more ∙ flat_map-append (bits_of 8) (take i bytes) (b ∷ []) ∙ ap (λ r. byte_bits (take i bytes) ++ r) (append-nil (bits_of 8 b)) in
+    record {
+      below = rw (width, value) (byte_more n k b l g);
+      bits = rw (width, value) (bits_of_cat k 8 n b g ∙ ap (λ r. r ++ bits_of 8 b) e ∙ sym last);
+    }
+
+-- one bit
+pub bits_of_one : (b : Bool) → bits_of 1 (bool_byte b) ≡ b ∷ []
+unfolding bits_of
+bits_of_one true = refl
+bits_of_one false = refl

@@ -17,6 +17,11 @@ pub record IsPacked (words : List ℕ) (len : ℕ) : Type 0 where
   pub no_more : 64 * length words < len + 64
   pub rest_zero : drop len (word_bits words) ≡ replicate (64 * length words - len) false
 
+-- the words are packed with this list
+pub record Holds (words : List ℕ) (len : ℕ) (bits : List Bool) : Type 0 where
+  pub packed : IsPacked words len
+  pub held : packed_bits words len ≡ bits
+
 -- a list of bits as it is kept: packed, within its room, and with memory for that
 pub record IsStored (words : List ℕ) (len room capacity : ℕ) : Type 0 where
   pub packed : IsPacked words len

@@ -1,6 +1,6 @@
-ghost use Rattle.std.specs.Prelude.{◌≡◌, ◌≢◌, ℕ, ◌+◌, ◌-◌, ◌*◌, ◌^◌, ◌<◌, ◌≤◌, ◌++◌, length, take, vec_len, vec_capacity, slice_index};
+ghost use Rattle.std.specs.Prelude.{◌≡◌, ◌≢◌, ℕ, ◌+◌, ◌-◌, ◌*◌, ◌^◌, ◌<◌, ◌≤◌, ◌++◌, length, take, vec_capacity, slice_index};
 ghost use Rattle.ml_bits.specs.BitList.{bits_of, byte_bits};
-ghost use Rattle.ml_bits.specs.Packing.{word_bits, packed_bits, IsPacked};
+ghost use Rattle.ml_bits.specs.Packing.{word_bits, packed_bits, IsPacked, Holds};
 
 /// How many bits a word has.
 pub(crate) const WORD_BITS: usize = 64;
@@ -23,8 +23,7 @@ pub(crate) fn append(words: &mut Vec<u64>, len: usize, value: u64, count: usize)
     requires value { value < 2 ^ count }
     requires fits { len + count < 2 ^ 64 }
     requires reserved { len + count ≤ 64 * vec_capacity words.old }
-    ensures packed { IsPacked words.new.items (len + count) }
-    ensures bits { packed_bits words.new.items (len + count) ≡ packed_bits words.old.items len ++ bits_of count value }
+    ensures held { Holds words.new.items (len + count) (packed_bits words.old.items len ++ bits_of count value) }
     ensures capacity { vec_capacity words.new ≡ vec_capacity words.old }
 {
     let spare = spare_bits(len);
@@ -44,11 +43,10 @@ pub(crate) fn append(words: &mut Vec<u64>, len: usize, value: u64, count: usize)
 /// Puts the `count` lowest bits of `value` into the last word, whose unused bits are enough for them.
 fn fill_last(words: &mut Vec<u64>, len: usize, value: u64, count: usize)
     requires packed { IsPacked words.old.items len }
-    requires count { len + count ≤ 64 * vec_len words.old }
+    requires count { len + count ≤ 64 * length words.old.items }
     requires value { value < 2 ^ count }
-    ensures packed { IsPacked words.new.items (len + count) }
-    ensures bits { packed_bits words.new.items (len + count) ≡ packed_bits words.old.items len ++ bits_of count value }
-    ensures len { vec_len words.new ≡ vec_len words.old }
+    ensures held { Holds words.new.items (len + count) (packed_bits words.old.items len ++ bits_of count value) }
+    ensures len { length words.new.items ≡ length words.old.items }
     ensures capacity { vec_capacity words.new ≡ vec_capacity words.old }
 {
     if count == 0 {
@@ -63,9 +61,8 @@ fn fill_last(words: &mut Vec<u64>, len: usize, value: u64, count: usize)
 fn start_word(words: &mut Vec<u64>, value: u64, count: usize)
     requires some { 0 < count }
     requires count { count ≤ 64 }
-    requires reserved { vec_len words.old < vec_capacity words.old }
-    ensures packed { IsPacked words.new.items (64 * vec_len words.old + count) }
-    ensures bits { packed_bits words.new.items (64 * vec_len words.old + count) ≡ word_bits words.old.items ++ bits_of count value }
+    requires reserved { length words.old.items < vec_capacity words.old }
+    ensures held { Holds words.new.items (64 * length words.old.items + count) (word_bits words.old.items ++ bits_of count value) }
     ensures capacity { vec_capacity words.new ≡ vec_capacity words.old }
 {
     words.push_reserved(value << (WORD_BITS - count));
@@ -75,8 +72,7 @@ fn start_word(words: &mut Vec<u64>, value: u64, count: usize)
 pub(crate) fn refill(words: &mut Vec<u64>, from: &[u64], len: usize)
     requires within { len ≤ 64 * length from.now }
     requires reserved { len ≤ 64 * vec_capacity words.old }
-    ensures packed { IsPacked words.new.items len }
-    ensures bits { packed_bits words.new.items len ≡ packed_bits from.now len }
+    ensures held { Holds words.new.items len (packed_bits from.now len) }
     ensures capacity { vec_capacity words.old ≤ vec_capacity words.new }
 {
     let used = len.div_ceil(WORD_BITS);
@@ -89,10 +85,9 @@ pub(crate) fn refill(words: &mut Vec<u64>, from: &[u64], len: usize)
 
 /// Makes the bits behind the first `len` zero, in words that are just enough for these.
 fn clear_rest(words: &mut Vec<u64>, len: usize)
-    requires enough { len ≤ 64 * vec_len words.old }
-    requires no_more { 64 * vec_len words.old < len + 64 }
-    ensures packed { IsPacked words.new.items len }
-    ensures bits { packed_bits words.new.items len ≡ packed_bits words.old.items len }
+    requires enough { len ≤ 64 * length words.old.items }
+    requires no_more { 64 * length words.old.items < len + 64 }
+    ensures held { Holds words.new.items len (packed_bits words.old.items len) }
     ensures capacity { vec_capacity words.new ≡ vec_capacity words.old }
 {
     let spare = spare_bits(len);

@@ -4,3 +4,5 @@ pub mod WordOrder
 pub mod Packed
 pub mod PackedOrder
 pub mod Common
+pub mod Bytes
+pub mod Stored

@@ -41,8 +41,8 @@ word_bits_cmp (w ∷ ws) (v ∷ vs) h g =
     let firsts : slice_cmp bool_cmp (bits_of 64 w) (bits_of 64 v) ≡ nat_cmp w v = bits_of_cmp 64 w v (h 0) (g 0) in
     let others : slice_cmp bool_cmp (word_bits ws) (word_bits vs) ≡ slice_cmp nat_cmp ws vs = word_bits_cmp ws vs (λ i. h (suc i)) (λ i. g (suc i)) in
     parts_cmp (bits_of 64 w) (bits_of 64 v) (word_bits ws) (word_bits vs) (length-bits_of 64 w ∙ sym (length-bits_of 64 v))
-      ∙ ap (λ o. ordering_then o (slice_cmp bool_cmp (word_bits ws) (word_bits vs))) firsts
-      ∙ ap (ordering_then (nat_cmp w v)) others
+    ∙ ap (λ o. ordering_then o (slice_cmp bool_cmp (word_bits ws) (word_bits vs))) firsts
+    ∙ ap (ordering_then (nat_cmp w v)) others
 
 -- ---- lists with zeros behind them
 
@@ -71,7 +71,7 @@ suc_cmp m n = grind (arith, nat_tests)
 
 -- two lists with p and q zeros behind them: the lists are in the order of these, and where these are the same, of their lengths
 padded_cmp : (xs ys : List Bool) (p q : ℕ) → (length xs ≡ length ys → p ≡ q) → (length xs < length ys → length xs + p ≤ length ys + q) → (length ys < length xs → length ys + q ≤ length xs + p)
-  → slice_cmp bool_cmp xs ys ≡ ordering_then (slice_cmp bool_cmp (xs ++ replicate p false) (ys ++ replicate q false)) (nat_cmp (length xs) (length ys))
+    → slice_cmp bool_cmp xs ys ≡ ordering_then (slice_cmp bool_cmp (xs ++ replicate p false) (ys ++ replicate q false)) (nat_cmp (length xs) (length ys))
 padded_cmp [] [] p q e l g =
     let same : p ≡ q = e refl in
     sym (ap (λ o. ordering_then o (nat_cmp 0 0)) (ap (λ n. slice_cmp bool_cmp (replicate p false) (replicate n false)) (sym same) ∙ tied_back (replicate p false)))
@@ -85,14 +85,14 @@ padded_cmp (x ∷ xs) [] p q e l g =
     sym (ap (ordering_then (slice_cmp bool_cmp (x ∷ xs ++ replicate p false) (replicate q false))) longer ∙ zeros_second q (x ∷ xs ++ replicate p false) long)
 padded_cmp (x ∷ xs) (y ∷ ys) p q e l g =
     let within = padded_cmp xs ys p q (λ s. e (ap suc s)) (λ h. let more : suc (length xs) + p ≤ suc (length ys) + q = l (omega arith) in omega arith)
-        (λ h. let more : suc (length ys) + q ≤ suc (length xs) + p = g (omega arith) in omega arith) in
+    (λ h. let more : suc (length ys) + q ≤ suc (length xs) + p = g (omega arith) in omega arith) in
     ap (ordering_then (bool_cmp x y)) within
-      ∙ sym (then_assoc (bool_cmp x y) (slice_cmp bool_cmp (xs ++ replicate p false) (ys ++ replicate q false)) (nat_cmp (length xs) (length ys)))
-      ∙ ap (ordering_then (ordering_then (bool_cmp x y) (slice_cmp bool_cmp (xs ++ replicate p false) (ys ++ replicate q false)))) (sym (suc_cmp (length xs) (length ys)))
+    ∙ sym (then_assoc (bool_cmp x y) (slice_cmp bool_cmp (xs ++ replicate p false) (ys ++ replicate q false)) (nat_cmp (length xs) (length ys)))
+    ∙ ap (ordering_then (ordering_then (bool_cmp x y) (slice_cmp bool_cmp (xs ++ replicate p false) (ys ++ replicate q false)))) (sym (suc_cmp (length xs) (length ys)))
 
-pub packed_cmp : (ws vs : List ℕ) (m n : ℕ) → IsPacked ws m → IsPacked vs n → ((i : ℕ) → get_or ws i 0 < 2 ^ 64) → ((i : ℕ) → get_or vs i 0 < 2 ^ 64)
-  → slice_cmp bool_cmp (packed_bits ws m) (packed_bits vs n) ≡ ordering_then (slice_cmp nat_cmp ws vs) (nat_cmp m n)
-packed_cmp ws vs m n p q h g =
+pub packed_cmp : (ws vs : List ℕ) (m n : ℕ) → IsPacked ws m → IsPacked vs n
+    → slice_cmp bool_cmp (packed_bits ws m) (packed_bits vs n) ≡ ordering_then (slice_cmp bool_cmp (word_bits ws) (word_bits vs)) (nat_cmp m n)
+packed_cmp ws vs m n p q =
     let xs : List Bool = packed_bits ws m in
     let ys : List Bool = packed_bits vs n in
     let x_long : length xs ≡ m = length-packed_bits ws m p in
@@ -101,8 +101,7 @@ packed_cmp ws vs m n p q h g =
     let shorter : length xs < length ys → length xs + (64 * length ws - m) ≤ length ys + (64 * length vs - n) = λ e. omega (arith, p.enough, p.no_more, q.enough, q.no_more, x_long, y_long, e) in
     let longer : length ys < length xs → length ys + (64 * length vs - n) ≤ length xs + (64 * length ws - m) = λ e. omega (arith, p.enough, p.no_more, q.enough, q.no_more, x_long, y_long, e) in
     padded_cmp xs ys (64 * length ws - m) (64 * length vs - n) same shorter longer
-      ∙ ap (λ zs. ordering_then (slice_cmp bool_cmp zs (ys ++ replicate (64 * length vs - n) false)) (nat_cmp (length xs) (length ys))) (sym (spells ws m p).spelled)
-      ∙ ap (λ zs. ordering_then (slice_cmp bool_cmp (word_bits ws) zs) (nat_cmp (length xs) (length ys))) (sym (spells vs n q).spelled)
-      ∙ ap (λ o. ordering_then o (nat_cmp (length xs) (length ys))) (word_bits_cmp ws vs h g)
-      ∙ ap (λ k. ordering_then (slice_cmp nat_cmp ws vs) (nat_cmp k (length ys))) x_long
-      ∙ ap (λ k. ordering_then (slice_cmp nat_cmp ws vs) (nat_cmp m k)) y_long
+    ∙ ap (λ zs. ordering_then (slice_cmp bool_cmp zs (ys ++ replicate (64 * length vs - n) false)) (nat_cmp (length xs) (length ys))) (sym (spells ws m p).spelled)
+    ∙ ap (λ zs. ordering_then (slice_cmp bool_cmp (word_bits ws) zs) (nat_cmp (length xs) (length ys))) (sym (spells vs n q).spelled)
+    ∙ ap (λ k. ordering_then (slice_cmp bool_cmp (word_bits ws) (word_bits vs)) (nat_cmp k (length ys))) x_long
+    ∙ ap (λ k. ordering_then (slice_cmp bool_cmp (word_bits ws) (word_bits vs)) (nat_cmp m k)) y_long

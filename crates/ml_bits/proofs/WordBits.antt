@@ -54,7 +54,7 @@ pub bits_of_split : (j k n : ℕ) → bits_of (j + k) n ≡ bits_of j (n / 2 ^ k
 bits_of_split j k n =
     let whole : n / 2 ^ k * 2 ^ k + n % 2 ^ k ≡ n = shr_split n k in
     let cut : bits_of (j + k) (n / 2 ^ k * 2 ^ k + n % 2 ^ k) ≡ bits_of j (n / 2 ^ k) ++ bits_of k (n % 2 ^ k) =
-        bits_of_cat j k (n / 2 ^ k) (n % 2 ^ k) (mod_below n (2 ^ k) (pow_pos k)) in
+    bits_of_cat j k (n / 2 ^ k) (n % 2 ^ k) (mod_below n (2 ^ k) (pow_pos k)) in
     rw whole at cut
 
 pub bits_of_zero : (k : ℕ) → bits_of k 0 ≡ replicate k false
@@ -86,7 +86,7 @@ byte_more n k b l g = let split : 2 ^ (k + 8) ≡ 2 ^ k * 2 ^ 8 = pow-add 2 k 8 
 
 -- one more byte
 pub number_more : (bytes : List ℕ) (i n b m : ℕ) → i < length bytes → i < 8 → b ≡ get_or bytes i 0 → b < 256
-  → n < 2 ^ (8 * i) → bits_of (8 * i) n ≡ byte_bits (take i bytes) → m ≡ bit_or (n * 256 % 2 ^ 64) b → IsNumberOf bytes (i + 1) m
+    → n < 2 ^ (8 * i) → bits_of (8 * i) n ≡ byte_bits (take i bytes) → m ≡ bit_or (n * 256 % 2 ^ 64) b → IsNumberOf bytes (i + 1) m
 number_more bytes i n b m here short read g l e m_is =
     let k : ℕ = 8 * i in
     let fits : k + 8 ≤ 64 = omega arith in
@@ -95,7 +95,7 @@ number_more bytes i n b m here short read g l e m_is =
     let width : 8 * (i + 1) ≡ k + 8 = omega arith in
     let more : take (i + 1) bytes ≡ take i bytes ++ b ∷ [] = take_more bytes i 0 here ∙ ap (λ x. take i bytes ++ x ∷ []) (sym read) in
     let last : byte_bits (take (i + 1) bytes) ≡ byte_bits (take i bytes) ++ bits_of 8 b =
-        ap byte_bits more ∙ flat_map-append (bits_of 8) (take i bytes) (b ∷ []) ∙ ap (λ r. byte_bits (take i bytes) ++ r) (append-nil (bits_of 8 b)) in
+    ap byte_bits more ∙ flat_map-append (bits_of 8) (take i bytes) (b ∷ []) ∙ ap (λ r. byte_bits (take i bytes) ++ r) (append-nil (bits_of 8 b)) in
     record {
       below = rw (width, value) (byte_more n k b l g);
       bits = rw (width, value) (bits_of_cat k 8 n b g ∙ ap (λ r. r ++ bits_of 8 b) e ∙ sym last);

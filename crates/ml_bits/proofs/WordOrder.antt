@@ -67,22 +67,22 @@ bits_of_cmp zero a b h g =
     rw (bits_of-none, bits_of-none, a_zero, b_zero)
 bits_of_cmp (suc k) a b h g =
     elim (cases_lt a (2 ^ k)) [
-      inl p ↦ elim (cases_lt b (2 ^ k)) [
-        inl q ↦ rw (low k a p, low k b q) (bits_of_cmp k a b p q)
-      | inr q ↦
-          let t = high k b q g in
-          rw (low k a p, t.spelled, less a b (omega arith))
-      ]
-    | inr p ↦
-        let s = high k a p h in
-        elim (cases_lt b (2 ^ k)) [
-          inl q ↦ rw (s.spelled, low k b q, greater a b (omega arith))
+      | inl p ↦ elim (cases_lt b (2 ^ k)) [
+        | inl q ↦ rw (low k a p, low k b q) (bits_of_cmp k a b p q)
         | inr q ↦
             let t = high k b q g in
-            let within = bits_of_cmp k s.rest t.rest s.below t.below in
-            let same : nat_cmp a b ≡ nat_cmp s.rest t.rest = ap (λ x. nat_cmp x b) s.sum ∙ ap (λ x. nat_cmp (2 ^ k + s.rest) x) t.sum ∙ shifted (2 ^ k) s.rest t.rest in
-            rw (s.spelled, t.spelled, same) within
-        ]
+            rw (low k a p, t.spelled, less a b (omega arith))
+      ]
+      | inr p ↦
+          let s = high k a p h in
+          elim (cases_lt b (2 ^ k)) [
+            | inl q ↦ rw (s.spelled, low k b q, greater a b (omega arith))
+            | inr q ↦
+                let t = high k b q g in
+                let within = bits_of_cmp k s.rest t.rest s.below t.below in
+                let same : nat_cmp a b ≡ nat_cmp s.rest t.rest = ap (λ x. nat_cmp x b) s.sum ∙ ap (λ x. nat_cmp (2 ^ k + s.rest) x) t.sum ∙ shifted (2 ^ k) s.rest t.rest in
+                rw (s.spelled, t.spelled, same) within
+          ]
     ]
 
 -- ---- the first place where bits differ
@@ -111,21 +111,21 @@ first_difference k a b h g pos fits =
     let place : n + suc j ≡ k = top.1 in
     let set : bit_at x j ≡ 1 = (high j x top.2 top.3).bit in
     let alike : (i : ℕ) → j < i → bit_at a i ≡ bit_at b i =
-        λ i above. even_pair (bit_at a i) (bit_at b i) (bit_at-lt a i) (bit_at-lt b i) (sym (bit_at_xor a b i) ∙ bit_at_above x (suc j) i top.3 (omega arith)) in
+    λ i above. even_pair (bit_at a i) (bit_at b i) (bit_at-lt a i) (bit_at-lt b i) (sym (bit_at_xor a b i) ∙ bit_at_above x (suc j) i top.3 (omega arith)) in
     let differ : bit_at a j ≢ bit_at b j =
-        odd_pair (bit_at a j) (bit_at b j) (bit_at-lt a j) (bit_at-lt b j) (sym (bit_at_xor a b j) ∙ set) in
+    odd_pair (bit_at a j) (bit_at b j) (bit_at-lt a j) (bit_at-lt b j) (sym (bit_at_xor a b j) ∙ set) in
     let a_long : length (take n (bits_of k a)) ≡ n = length-take-le n (bits_of k a) (omega (arith, length-bits_of k a)) in
     let b_long : length (take n (bits_of k b)) ≡ n = length-take-le n (bits_of k b) (omega (arith, length-bits_of k b)) in
     record {
       within = omega arith;
       same = same_lists (take n (bits_of k a)) (take n (bits_of k b)) (a_long ∙ sym b_long) (λ i d l.
-        let near : i < n = omega arith in
-        let m : ℕ = k - suc i in
-        let at : i + suc m ≡ k = omega arith in
-        get_or-take n (bits_of k a) i d near ∙ get_or-bits_of k a i m d at ∙ ap (λ y. eqb y 1) (alike m (omega arith))
+          let near : i < n = omega arith in
+          let m : ℕ = k - suc i in
+          let at : i + suc m ≡ k = omega arith in
+          get_or-take n (bits_of k a) i d near ∙ get_or-bits_of k a i m d at ∙ ap (λ y. eqb y 1) (alike m (omega arith))
           ∙ sym (get_or-bits_of k b i m d at) ∙ sym (get_or-take n (bits_of k b) i d near));
       apart = λ e. apart_tests (bit_at a j) (bit_at b j) (bit_at-lt a j) (bit_at-lt b j) differ
-        (sym (get_or-bits_of k a n j false place) ∙ e ∙ get_or-bits_of k b n j false place);
+          (sym (get_or-bits_of k a n j false place) ∙ e ∙ get_or-bits_of k b n j false place);
     }
 
 tied : (a b : ℕ) → nat_cmp a b ≡ Equal → a ≡ b
@@ -140,9 +140,9 @@ same_from_bits_of k a b h g e =
 pub xor_pos : (a b : ℕ) → a ≢ b → 0 < bit_xor a b
 xor_pos a b apart =
     elim (cases_lt 0 (bit_xor a b)) [
-      inl h ↦ h
-    | inr h ↦
-        let none : bit_xor a b ≡ 0 = omega arith in
-        absurd (apart (same_from_bits a b (λ i.
+      | inl h ↦ h
+      | inr h ↦
+          let none : bit_xor a b ≡ 0 = omega arith in
+          absurd (apart (same_from_bits a b (λ i.
           even_pair (bit_at a i) (bit_at b i) (bit_at-lt a i) (bit_at-lt b i) (sym (bit_at_xor a b i) ∙ ap (λ x. bit_at x i) none ∙ bit_at-zero i))))
     ]

@@ -1,7 +1,7 @@
 ghost use Rattle.std.specs.Prelude.{◌≡◌, ℕ, ◌+◌, ◌*◌, ◌^◌, ◌<◌, ◌≤◌, ◌↔◌, [], ◌∷◌, false, length, take, max, IsTrue, IfOk, OnOk, OnErr, slice_index_or};
 ghost use Rattle.ml_bits.specs.BitList.{bits_of, byte_bits, fresh, followed_by};
 
-use crate::words::{BYTE_BITS, WORD_BITS, append, number_of};
+use crate::words::{BYTE_BITS, WORD_BITS, append, len_with, number_of};
 use std::alloc::{AllocError, Global};
 use std::marker::Model;
 
@@ -47,9 +47,10 @@ impl Bits {
         let whole = count / BYTE_BITS;
         list.push_bytes(&bytes[..whole])?;
         let rest = count % BYTE_BITS;
-        if rest > 0 {
-            list.push_bits(u64::from(bytes[whole] >> (BYTE_BITS - rest)), rest)?;
+        if rest == 0 {
+            return Ok(list);
         }
+        list.push_bits(u64::from(bytes[whole] >> (BYTE_BITS - rest)), rest)?;
         Ok(list)
     }
 
@@ -123,10 +124,7 @@ impl Bits {
         ensures err { OnErr result (self.new ≡ self.old) }
         ensures full { OnErr result (self.old.room < length self.old.bits + 8 * length bytes.now) }
     {
-        let Some(more) = bytes.len().checked_mul(BYTE_BITS) else {
-            return Err(AllocError);
-        };
-        let Some(len) = self.len.checked_add(more) else {
+        let Some(len) = len_with(self.len, bytes.len()) else {
             return Err(AllocError);
         };
         self.make_room(len)?;
@@ -142,10 +140,10 @@ impl Bits {
         let mut rest = bytes;
         while !rest.is_empty() {
             let (front, back) = rest.split_at(rest.len().min(8));
-            if self.push_bits(number_of(front), BYTE_BITS * front.len()).is_err() {
-                unreachable!();
+            match self.push_bits(number_of(front), BYTE_BITS * front.len()) {
+                Ok(()) => rest = back,
+                Err(_) => unreachable!(),
             }
-            rest = back;
         }
     }
 }

@@ -3,6 +3,7 @@ ghost use Rattle.std.specs.Ordering.{bool_cmp};
 ghost use Rattle.std.specs.Cmp.Lexicographic.{slice_cmp};
 
 use crate::bit_list::Bits;
+use crate::words::word_cmp;
 use std::cmp::Ordering;
 
 impl Bits {
@@ -10,9 +11,6 @@ impl Bits {
     pub fn cmp(&self, other: &Bits) -> Ordering
         ensures { result ≡ slice_cmp bool_cmp self.now.bits other.now.bits }
     {
-        self.words
-            .as_slice()
-            .cmp(&other.words.as_slice())
-            .then(self.len.cmp(&other.len))
+        word_cmp(&self.words, &other.words).then(self.len.cmp(&other.len))
     }
 }

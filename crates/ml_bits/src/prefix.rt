@@ -55,6 +55,6 @@ impl Bits {
     pub fn is_prefix_of(&self, other: &Bits) -> bool
         ensures { IsTrue result ↔ Begins self.now.bits other.now.bits }
     {
-        self.common_len(other) == self.len
+        self.len <= other.len && self.common_len(other) == self.len
     }
 }

@@ -1,6 +1,11 @@
 ghost use Rattle.std.specs.Prelude.{◌≡◌, ◌≢◌, ℕ, ◌+◌, ◌-◌, ◌*◌, ◌^◌, ◌<◌, ◌≤◌, ◌++◌, length, take, vec_capacity, slice_index};
+ghost use Rattle.std.specs.Option.{SomeIff};
+ghost use Rattle.std.specs.Ordering.{bool_cmp};
+ghost use Rattle.std.specs.Cmp.Lexicographic.{slice_cmp};
 ghost use Rattle.ml_bits.specs.BitList.{bits_of, byte_bits};
 ghost use Rattle.ml_bits.specs.Packing.{word_bits, packed_bits, IsPacked, Holds};
+
+use std::cmp::Ordering;
 
 /// How many bits a word has.
 pub(crate) const WORD_BITS: usize = 64;
@@ -14,6 +19,14 @@ pub(crate) fn spare_bits(len: usize) -> usize
     ensures left { (words : ℕ) → len ≤ 64 * words → 64 * words < len + 64 → result ≡ 64 * words - len }
 {
     (WORD_BITS - len % WORD_BITS) % WORD_BITS
+}
+
+/// How many bits there are with those of so many bytes, if the number fits.
+pub(crate) fn len_with(len: usize, bytes: usize) -> Option<usize>
+    ensures { SomeIff result (len + 8 * bytes < 2 ^ 64) (len + 8 * bytes) }
+{
+    let more = bytes.checked_mul(BYTE_BITS)?;
+    len.checked_add(more)
 }
 
 /// Puts the `count` lowest bits of `value` behind the first `len` bits, where the words have room for them.
@@ -112,6 +125,13 @@ pub(crate) fn common_words(first: &[u64], second: &[u64]) -> usize
         }
     }
     shorter
+}
+
+/// The order of the bits of words.
+pub(crate) fn word_cmp(first: &[u64], second: &[u64]) -> Ordering
+    ensures { result ≡ slice_cmp bool_cmp (word_bits first.now) (word_bits second.now) }
+{
+    first.cmp(&second)
 }
 
 /// The number whose bits are those of up to eight bytes.

@@ -15,5 +15,5 @@ returns-clause-held c =
     let last : suc (c.len-last.result - 1) ≡ length c.args.words.now.items = omega (arith, spare) in
     let within : c.len-last.result - 1 < length c.args.words.now.items = omega (arith, last) in
     let word : c.index.result.now ≡ get_or c.args.words.now.items (c.len-last.result - 1) 0 =
-        get_or_read c.args.words.now.items (c.len-last.result - 1) c.index.result.now within c.index.ensures 0 in
+    get_or_read c.args.words.now.items (c.len-last.result - 1) c.index.result.now within c.index.ensures 0 in
     packed.clear_rest _ _ _ _ _ last spare word c.requires.enough c.requires.no_more

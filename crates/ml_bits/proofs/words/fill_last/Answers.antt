@@ -12,6 +12,6 @@ returns-clause-held c =
     let last : suc (c.len-last.result - 1) ≡ length c.args.words.now.items = omega (arith, c.requires.packed.enough) in
     let within : c.len-last.result - 1 < length c.args.words.now.items = omega (arith, last) in
     let word : c.index_mut.result.now ≡ get_or c.args.words.now.items (c.len-last.result - 1) 0 =
-        get_or_read c.args.words.now.items (c.len-last.result - 1) c.index_mut.result.now within c.index_mut.ensures.value 0 in
+    get_or_read c.args.words.now.items (c.len-last.result - 1) c.index_mut.result.now within c.index_mut.ensures.value 0 in
     let count : c.args.count ≤ c.spare_bits-spare.result = omega (arith, spare, c.requires.count) in
     packed.fill_last _ _ _ _ _ _ _ c.requires.packed last spare word count c.requires.value

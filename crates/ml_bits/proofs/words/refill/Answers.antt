@@ -9,5 +9,5 @@ returns-clause-held c =
     let within : c.div_ceil-used.result ≤ length c.args.from.now = omega arith in
     let items : c.extend_from_slice.new.self.items ≡ take c.div_ceil-used.result c.args.from.now = cc (c.in-Ok.ensures.items, c.clear.ensures.items) in
     let bits : packed_bits c.extend_from_slice.new.self.items c.args.len ≡ packed_bits c.args.from.now c.args.len =
-        ap (λ ws. packed_bits ws c.args.len) items ∙ packed.packed_bits_take _ _ _ used within in
+    ap (λ ws. packed_bits ws c.args.len) items ∙ packed.packed_bits_take _ _ _ used within in
     subst (Holds c.clear_rest.new.words.items c.args.len) bits c.clear_rest.ensures.held

@@ -9,5 +9,5 @@ returns c =
     let here : c.args.i < c.self.inside.len = omega (arith, long) in
     let there : c.args.i / 64 < length c.self.inside.words.items = omega (arith, c.self.invariant.packed.enough) in
     let word : c.index.result.now ≡ get_or c.self.inside.words.items (c.args.i / 64) 0 =
-        get_or_read c.self.inside.words.items (c.args.i / 64) c.index.result.now there c.index.ensures 0 in
+    get_or_read c.self.inside.words.items (c.args.i / 64) c.index.result.now there c.index.ensures 0 in
     bit_read _ _ _ _ _ here there word (ap (λ v. v.bits) c.self.view_is)

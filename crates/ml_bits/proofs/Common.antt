@@ -7,6 +7,7 @@ use Rattle.std.proofs.lemmas.List.{length-take, length-take-le, get_or-take, tak
 use Rattle.std.proofs.lemmas.Nat.{xor_lt}
 use Rattle.ml_bits.specs.BitList.{bits_of, Begins, IsCommonLength}
 use Rattle.ml_bits.specs.Packing.{word_bits, packed_bits, IsPacked}
+use Rattle.ml_bits.proofs.OrderLaws.{begins_within}
 use Rattle.ml_bits.proofs.WordOrder.{DifferAt, first_difference, xor_pos}
 use Rattle.ml_bits.proofs.Packed.{length-word_bits, word_bits_take, get_or-word_bits, length-packed_bits}
 
@@ -113,9 +114,6 @@ common_of xs ys zs us n e f h = subst (λ x. IsCommonLength x us n) e (subst (λ
 
 pub begins_from_common : (xs ys : List Bool) (n : ℕ) → IsCommonLength xs ys n → n ≡ length xs → Begins xs ys
 begins_from_common xs ys n h e = ap (λ k. take k ys) (sym e) ∙ sym h.same ∙ take_all n xs (omega arith)
-
-pub begins_within : (xs ys : List Bool) → Begins xs ys → length xs ≤ length ys
-begins_within xs ys b = omega (arith, ap length b, length-take (length xs) ys)
 
 pub common_from_begins : (xs ys : List Bool) (n : ℕ) → IsCommonLength xs ys n → Begins xs ys → n ≡ length xs
 common_from_begins xs ys n h b =

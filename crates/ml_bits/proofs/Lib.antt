@@ -3,6 +3,7 @@ pub mod WordBits
 pub mod WordOrder
 pub mod Packed
 pub mod PackedOrder
+pub mod OrderLaws
 pub mod Common
 pub mod Bytes
 pub mod Stored

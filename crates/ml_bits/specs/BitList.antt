@@ -1,6 +1,10 @@
 -- What contracts see of a bit list: its bits in order, `true` for 1, and its room, the number of bits that it holds before it takes memory.
 use Rattle.std.specs.Prelude.{ℕ, zero, suc, ◌+◌, ◌/◌, ◌%◌, ◌^◌, ◌==◌, ◌<◌, ◌≤◌, ◌≡◌, ◌≢◌, Bool, false, List, [], ◌∷◌, ◌++◌, length, take, max, slice_index_or}
 use Rattle.std.specs.List.{flat_map}
+use Rattle.std.specs.declared.cmp.Ordering.{Ordering}
+use Rattle.std.specs.Ordering.{bool_cmp}
+use Rattle.std.specs.Cmp.{IsTotalOrder, bool_cmp_total, on_total}
+use Rattle.std.specs.Cmp.Lexicographic.{slice_cmp, lists_total}
 
 -- a list of bits, and its room
 pub record BitList : Type 0 where
@@ -34,3 +38,10 @@ pub record IsCommonLength (first second : List Bool) (n : ℕ) : Type 0 where
   pub within_second : n ≤ length second
   pub same : take n first ≡ take n second
   pub apart : n < length first → n < length second → slice_index_or first n false ≢ slice_index_or second n false
+
+-- the order of bit lists: at the first place where they differ 0 comes before 1, and a list comes before its extensions
+abbrev pub bits_cmp : BitList → BitList → Ordering
+bits_cmp first second = slice_cmp bool_cmp first.bits second.bits
+
+pub bits_cmp_total : IsTotalOrder bits_cmp
+bits_cmp_total = on_total (λ (list : BitList). list.bits) (lists_total bool_cmp_total)

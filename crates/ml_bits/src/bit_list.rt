@@ -6,7 +6,7 @@ use std::alloc::{AllocError, Global};
 use std::marker::Model;
 
 /// A list of bits, with the room that it was given: how many bits it holds before it takes memory. The room is never below the length.
-#[derive(Drop)]
+#[derive(Debug, Drop)]
 pub struct Bits {
     pub(crate) words: Vec<u64>,
     pub(crate) len: usize,

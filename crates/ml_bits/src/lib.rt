@@ -11,3 +11,6 @@ mod words;
 
 pub use bit_list::Bits;
 pub use std::alloc::AllocError as OutOfMemory;
+
+#[cfg(test)]
+mod tests;

@@ -4,6 +4,6 @@ pub mod WordOrder
 pub mod Packed
 pub mod PackedOrder
 pub mod OrderLaws
-pub mod Common
+pub mod CommonLength
 pub mod Bytes
 pub mod Stored

@@ -1,5 +1,5 @@
 -- Lists cut at one place.
-use Rattle.std.proofs.Common.{◌≡◌, ℕ, zero, suc, ◌+◌, ◌*◌, ◌<◌, ◌≤◌, Bool, List, [], ◌∷◌, ◌++◌, length, get_or, take, drop, replicate, refl, sym, ap, ◌∙◌, arith, length-append}
+use Rattle.std.proofs.Common.{◌≡◌, List, [], ◌∷◌, ◌++◌, length, refl, ap, arith, length-append}
 
 -- two lists in two parts, the second parts as long as each other
 pub same_parts : {A : Type 0} (xs ys ps qs : List A) → length ps ≡ length qs → xs ++ ps ≡ ys ++ qs → (xs ≡ ys) × (ps ≡ qs)

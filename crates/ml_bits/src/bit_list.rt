@@ -1,8 +1,9 @@
 ghost use Rattle.std.specs.Prelude.{◌≡◌, ℕ, ◌+◌, ◌*◌, ◌^◌, ◌<◌, ◌≤◌, ◌↔◌, [], ◌∷◌, false, length, take, max, IsTrue, IfOk, OnOk, OnErr, slice_index_or};
 ghost use Rattle.ml_bits.specs.BitList.{bits_of, byte_bits, fresh, followed_by};
 
-use crate::words::{BYTE_BITS, WORD_BITS, append, len_with, number_of};
-use std::alloc::{AllocError, Global};
+use crate::OutOfMemory;
+use crate::words::{BYTE_BITS, WORD_BITS, WORD_BYTES, append, len_with, number_of};
+use std::alloc::Global;
 use std::marker::Model;
 
 /// A list of bits, with the room that it was given: how many bits it holds before it takes memory. The room is never below the length.
@@ -38,7 +39,7 @@ impl Bits {
     }
 
     /// The first `count` bits of some bytes, the highest bit of each byte first.
-    pub fn from_bytes(alloc: Global, bytes: &[u8], count: usize) -> Result<Bits, AllocError>
+    pub fn from_bytes(alloc: Global, bytes: &[u8], count: usize) -> Result<Bits, OutOfMemory>
         requires { count ≤ 8 * length bytes.now }
         ensures { IfOk result (λ list. list ≡ fresh (take count (byte_bits bytes.now))) }
     {
@@ -77,7 +78,7 @@ impl Bits {
     }
 
     /// Gives the list room for `bits` bits in all, counting those that it has. After an error nothing has changed.
-    pub fn make_room(&mut self, bits: usize) -> Result<(), AllocError>
+    pub fn make_room(&mut self, bits: usize) -> Result<(), OutOfMemory>
         ensures list { self.new.bits ≡ self.old.bits }
         ensures ok { OnOk result (self.new.room ≡ max self.old.room bits) }
         ensures err { OnErr result (self.new ≡ self.old) }
@@ -93,7 +94,7 @@ impl Bits {
     }
 
     /// Puts a bit at the end. After an error nothing has changed.
-    pub fn push(&mut self, bit: bool) -> Result<(), AllocError>
+    pub fn push(&mut self, bit: bool) -> Result<(), OutOfMemory>
         ensures ok { OnOk result (self.new ≡ followed_by self.old (bit ∷ [])) }
         ensures err { OnErr result (self.new ≡ self.old) }
         ensures full { OnErr result (self.old.room < length self.old.bits + 1) }
@@ -102,7 +103,7 @@ impl Bits {
     }
 
     /// Puts the `count` lowest bits of a number at the end, the highest of them first. After an error nothing has changed.
-    pub fn push_bits(&mut self, value: u64, count: usize) -> Result<(), AllocError>
+    pub fn push_bits(&mut self, value: u64, count: usize) -> Result<(), OutOfMemory>
         requires count { count ≤ 64 }
         requires value { value < 2 ^ count }
         ensures ok { OnOk result (self.new ≡ followed_by self.old (bits_of count value)) }
@@ -110,7 +111,7 @@ impl Bits {
         ensures full { OnErr result (self.old.room < length self.old.bits + count) }
     {
         let Some(len) = self.len.checked_add(count) else {
-            return Err(AllocError);
+            return Err(OutOfMemory);
         };
         self.make_room(len)?;
         append(&mut self.words, self.len, value, count);
@@ -119,13 +120,13 @@ impl Bits {
     }
 
     /// Puts the bits of some bytes at the end, the highest bit of each byte first. After an error nothing has changed.
-    pub fn push_bytes(&mut self, bytes: &[u8]) -> Result<(), AllocError>
+    pub fn push_bytes(&mut self, bytes: &[u8]) -> Result<(), OutOfMemory>
         ensures ok { OnOk result (self.new ≡ followed_by self.old (byte_bits bytes.now)) }
         ensures err { OnErr result (self.new ≡ self.old) }
         ensures full { OnErr result (self.old.room < length self.old.bits + 8 * length bytes.now) }
     {
         let Some(len) = len_with(self.len, bytes.len()) else {
-            return Err(AllocError);
+            return Err(OutOfMemory);
         };
         self.make_room(len)?;
         self.push_reserved(bytes);
@@ -139,7 +140,7 @@ impl Bits {
     {
         let mut rest = bytes;
         while !rest.is_empty() {
-            let (front, back) = rest.split_at(rest.len().min(8));
+            let (front, back) = rest.split_at(rest.len().min(WORD_BYTES));
             match self.push_bits(number_of(front), BYTE_BITS * front.len()) {
                 Ok(()) => rest = back,
                 Err(_) => unreachable!(),

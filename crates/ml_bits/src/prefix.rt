@@ -1,13 +1,13 @@
 ghost use Rattle.std.specs.Prelude.{◌≡◌, ℕ, ◌≤◌, ◌↔◌, length, take, IsTrue, IfOk};
 ghost use Rattle.ml_bits.specs.BitList.{fresh, Begins, IsCommonLength};
 
+use crate::OutOfMemory;
 use crate::bit_list::Bits;
 use crate::words::{WORD_BITS, common_words, refill};
-use std::alloc::AllocError;
 
 impl Bits {
     /// The first `n` bits.
-    pub fn prefix(&self, n: usize) -> Result<Bits, AllocError>
+    pub fn prefix(&self, n: usize) -> Result<Bits, OutOfMemory>
         requires { n ≤ length self.now.bits }
         ensures { IfOk result (λ front. front ≡ fresh (take n self.now.bits)) }
     {
@@ -29,7 +29,7 @@ impl Bits {
     }
 
     /// An equal list, which has the same room.
-    pub fn copy_of(&self) -> Result<Bits, AllocError>
+    pub fn copy_of(&self) -> Result<Bits, OutOfMemory>
         ensures { IfOk result (λ copy. copy ≡ self.now) }
     {
         let mut copy = Bits::empty(*self.words.allocator());

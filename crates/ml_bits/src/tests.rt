@@ -1,10 +1,10 @@
-use crate::Bits;
-use std::alloc::{AllocError, Global};
+use crate::{Bits, OutOfMemory};
+use std::alloc::Global;
 use std::cmp::Ordering;
 use std::test::Fail;
 
 /// So many zeros, and then a tail.
-fn zeros_then(alloc: Global, zeros: usize, tail: &[bool]) -> Result<Bits, AllocError> {
+fn zeros_then(alloc: Global, zeros: usize, tail: &[bool]) -> Result<Bits, OutOfMemory> {
     let mut list = Bits::empty(alloc);
     for _ in 0..zeros {
         list.push(false)?;
@@ -16,7 +16,7 @@ fn zeros_then(alloc: Global, zeros: usize, tail: &[bool]) -> Result<Bits, AllocE
 }
 
 /// The list as digits.
-fn digits(alloc: Global, list: &Bits) -> Result<String, AllocError> {
+fn digits(alloc: Global, list: &Bits) -> Result<String, OutOfMemory> {
     let mut text = String::new(alloc);
     for i in 0..list.len() {
         text.push(if list.bit(i) { '1' } else { '0' })?;
@@ -95,7 +95,7 @@ fn orders_interleaved_codes(rt: HostRuntime) -> Result<(), Fail> {
     Ok(())
 }
 
-fn interleaved(alloc: Global, a: u64, b: u64) -> Result<Bits, AllocError> {
+fn interleaved(alloc: Global, a: u64, b: u64) -> Result<Bits, OutOfMemory> {
     let mut list = Bits::empty(alloc);
     for place in 0..64u64 {
         list.push(a >> (63 - place) & 1 == 1)?;

@@ -13,6 +13,9 @@ pub(crate) const WORD_BITS: usize = 64;
 /// How many bits a byte has.
 pub(crate) const BYTE_BITS: usize = 8;
 
+/// How many bytes a word has.
+pub(crate) const WORD_BYTES: usize = WORD_BITS / BYTE_BITS;
+
 /// How many bits of the last word are not used, where the words are just enough for `len` bits.
 pub(crate) fn spare_bits(len: usize) -> usize
     ensures below { result < 64 }

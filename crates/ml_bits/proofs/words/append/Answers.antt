@@ -1,4 +1,4 @@
-use Rattle.std.proofs.Common.{length, arith}
+use Rattle.std.proofs.Common.{length}
 use Rattle.ml_bits.proofs.Packed as packed
 use Rattle.ml_bits.proofs.words.append.Goals as goal
 

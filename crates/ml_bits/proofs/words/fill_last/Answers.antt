@@ -1,4 +1,4 @@
-use Rattle.std.proofs.Common.{◌≡◌, suc, ◌-◌, ◌*◌, ◌≤◌, ◌<◌, length, arith, get_or}
+use Rattle.std.proofs.Common.{◌≡◌, suc, ◌-◌, ◌≤◌, ◌<◌, length, arith, get_or}
 use Rattle.std.proofs.lemmas.List.{get_or_read}
 use Rattle.ml_bits.proofs.Packed as packed
 use Rattle.ml_bits.proofs.words.fill_last.Goals as goal

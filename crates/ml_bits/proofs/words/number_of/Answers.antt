@@ -1,4 +1,4 @@
-use Rattle.std.proofs.Common.{◌≡◌, ◌<◌, ◌≤◌, length, get_or, arith, refl}
+use Rattle.std.proofs.Common.{◌<◌, arith, refl}
 use Rattle.ml_bits.proofs.WordBits.{bits_of-none, number_more}
 use Rattle.ml_bits.proofs.words.number_of.Goals as goal
 

@@ -1,4 +1,4 @@
-use Rattle.std.proofs.Common.{ℕ, ◌<◌, ◌^◌, get_or, arith, rules, sym, ◌∙◌}
+use Rattle.std.proofs.Common.{ℕ, ◌<◌, ◌^◌, get_or, rules, sym, ◌∙◌}
 use Rattle.ml_bits.proofs.PackedOrder.{word_bits_cmp}
 use Rattle.ml_bits.proofs.words.word_cmp.Goals as goal
 

@@ -1,8 +1,6 @@
-use Rattle.std.proofs.Common.{◌≡◌, ◌≢◌, ◌*◌, ◌<◌, ◌≤◌, ◌+◌, ◌-◌, ◌^◌, min, length, take, get_or, arith, ap, sym, refl, ◌∙◌, subst}
+use Rattle.std.proofs.Common.{◌≡◌, ◌≢◌, ◌*◌, ◌<◌, ◌≤◌, ◌^◌, min, length, take, get_or, arith, ap, sym, refl, ◌∙◌}
 use Rattle.std.proofs.lemmas.List.{get_or_read}
-use Rattle.ml_bits.specs.BitList.{IsCommonLength}
-use Rattle.ml_bits.specs.Packing.{packed_bits}
-use Rattle.ml_bits.proofs.Common.{common_all, common_until, common_of}
+use Rattle.ml_bits.proofs.CommonLength.{common_all, common_until, common_of}
 use Rattle.ml_bits.proofs.bit_list.Bits.common_len.Goals as goal
 use Rattle.ml_bits.proofs.bit_list.Bits.common_len.Goals.{then-at-len-via-then-at-len, then-at-len-via-else-at-len+then-at-len-2}
 

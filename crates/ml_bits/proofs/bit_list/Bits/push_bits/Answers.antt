@@ -1,6 +1,5 @@
-use Rattle.std.proofs.Common.{◌≡◌, ◌+◌, ◌*◌, ◌<◌, ◌≤◌, ◌++◌, max, length, arith, ap, sym, ◌∙◌, subst}
-use Rattle.std.specs.Vec.{vec_capacity}
-use Rattle.ml_bits.specs.BitList.{bits_of, followed_by}
+use Rattle.std.proofs.Common.{◌≡◌, ◌+◌, ◌<◌, ◌++◌, max, length, arith, ap, sym, ◌∙◌, subst}
+use Rattle.ml_bits.specs.BitList.{bits_of}
 use Rattle.ml_bits.specs.Packing.{IsPacked, packed_bits}
 use Rattle.ml_bits.proofs.WordBits.{length-bits_of}
 use Rattle.ml_bits.proofs.Packed.{length_held}

@@ -1,14 +1,14 @@
 -- How many first bits two packed lists have in common, from the first words that differ.
-use Rattle.std.proofs.Common.{◌≡◌, ◌≢◌, ◌⊎◌, inl, inr, subst, ℕ, zero, suc, ◌+◌, ◌-◌, ◌*◌, ◌^◌, ◌<◌, ◌≤◌, min, Bool, true, false, List, [], ◌∷◌, ◌++◌, length, get_or, take, drop, refl, sym, ap, ◌∙◌, arith}
+use Rattle.std.proofs.Common.{◌≡◌, ◌≢◌, inl, inr, subst, ℕ, ◌+◌, ◌-◌, ◌*◌, ◌^◌, ◌<◌, ◌≤◌, min, Bool, false, List, length, get_or, take, sym, ap, ◌∙◌, arith}
 use Rattle.std.specs.Int.RustNames.{bit_xor}
 use lib.Count.{count_leading_zeros}
 use Rattle.std.proofs.lemmas.Bool.{cases_lt}
-use Rattle.std.proofs.lemmas.List.{length-take, length-take-le, get_or-take, take-take, take_all, ext_get_or}
+use Rattle.std.proofs.lemmas.List.{length-take-le, get_or-take, take-take, take_all, ext_get_or}
 use Rattle.std.proofs.lemmas.Nat.{xor_lt}
 use Rattle.ml_bits.specs.BitList.{bits_of, Begins, IsCommonLength}
 use Rattle.ml_bits.specs.Packing.{word_bits, packed_bits, IsPacked}
 use Rattle.ml_bits.proofs.OrderLaws.{begins_within}
-use Rattle.ml_bits.proofs.WordOrder.{DifferAt, first_difference, xor_pos}
+use Rattle.ml_bits.proofs.WordOrder.{first_difference, xor_pos}
 use Rattle.ml_bits.proofs.Packed.{length-word_bits, word_bits_take, get_or-word_bits, length-packed_bits}
 
 -- ---- the same bits, place by place

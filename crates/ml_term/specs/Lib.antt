@@ -1,0 +1,14 @@
+pub mod formers
+pub mod Names
+pub mod Tree
+pub mod Order
+pub mod Runs
+pub mod Unify
+pub mod Decimal
+pub mod Text
+pub mod CanonicalBytes
+pub mod Codes
+pub mod Keys
+pub mod Patterns
+pub mod Seen
+pub mod Rows

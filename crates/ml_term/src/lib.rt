@@ -1,0 +1,15 @@
+//! Terms and what is said of them: trees, order, unification, canonical text and bytes, codes and keys, and the declarations of predicates.
+//! It stands on nothing. The layers above use the tree that a term is seen as, and the definitions of `specs/`, which speak of trees alone.
+//! Names, arguments and declarations keep in their types what makes a term valid, save that integers are in range, which is a condition of
+//! each public call that takes a term.
+#![tactic(auto)]
+
+mod args;
+mod declaration;
+mod name;
+mod term;
+
+pub use args::ArgsOf;
+pub use declaration::{Decl, Keys, Kind, Pred};
+pub use name::Name;
+pub use term::{Args, Term};

@@ -10,4 +10,6 @@ pub mod KeyHeads
 pub mod ValidBytes
 pub mod KeyOrder
 pub mod Arguments
+pub mod KeysTellTuples
+pub mod Decimals
 pub mod DefaultKeys

@@ -1,0 +1,16 @@
+pub mod formers
+pub mod Names
+pub mod Tree
+pub mod Order
+pub mod Runs
+pub mod Unify
+pub mod Decimal
+pub mod Text
+pub mod CanonicalBytes
+pub mod Codes
+pub mod Keys
+pub mod KeyHeads
+pub mod Patterns
+pub mod Valid
+pub mod Seen
+pub mod Rows

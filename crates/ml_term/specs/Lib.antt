@@ -12,3 +12,4 @@ pub mod Keys
 pub mod Patterns
 pub mod Seen
 pub mod Rows
+pub mod Unifiers

@@ -6,3 +6,4 @@ pub mod Substitution
 pub mod StepsSay
 pub mod MapsFollow
 pub mod MostGeneral
+pub mod Solved

@@ -4,6 +4,7 @@ use Rattle.std.proofs.Common.{inl, inr, refl, sym, ap, ◌∙◌, subst, arith}
 use Rattle.std.proofs.Math.Path.{path_j, subst_refl}
 use Rattle.std.proofs.lemmas.Bool.{ltb-true, ltb-false}
 use Rattle.ml_term.specs.Runs.{Next, now, ask, on, followed, run_within, run_below, run}
+use Rattle.ml_term.specs.Falling.{FallsTo, FallsBelow, Falls, AlwaysFalls, HoldsNext, HoldsAfter}
 
 module _ {S R : Type 0} (turn : S → Next S R) where
   -- the runs of a machine, turn by turn
@@ -63,40 +64,36 @@ module _ {S R : Type 0} (turn : S → Next S R) where
     same_go over over = refl
     same_go (goes h) (goes h') = same_run h h'
 
-  module _ (first second : S → ℕ) (never : S → R) (end : R → ℕ) where
-    abbrev pub FallsTo : S → R ⊎ S → Type 0
-    FallsTo s (inl r) = end r ≤ first s
-    FallsTo s (inr t) = (first t < first s) ⊎ ((first t ≡ first s) × (second t < second s))
+  module _ (first second : S → ℕ) (never : S → R) (last : R → ℕ) where
+    abbrev FallsIn : S → Next S R → Type 0
+    FallsIn = Falls first second last
 
-    abbrev pub FallsBelow : S → R ⊎ S → Type 0
-    FallsBelow s (inl r) = end r ≤ first s
-    FallsBelow s (inr t) = first t < first s
+    abbrev FallsInTo : S → R ⊎ S → Type 0
+    FallsInTo = FallsTo first second last
 
-    -- a turn lowers the first number, or keeps it and lowers the second
-    abbrev pub Falls : S → Next S R → Type 0
-    Falls s (now x) = FallsTo s x
-    Falls s (ask t k) = (first t < first s) × ((q : R) → end q ≤ first t → FallsBelow s (k q))
+    abbrev FallsInBelow : S → R ⊎ S → Type 0
+    FallsInBelow = FallsBelow first second last
 
     abbrev pub Good : S → R → Type 0
-    Good s r = Runs s r × (end r ≤ first s)
+    Good s r = Runs s r × (last r ≤ first s)
 
     abbrev pub GoodFrom : S → Next S R → R → Type 0
-    GoodFrom s x r = Follows x r × (end r ≤ first s)
+    GoodFrom s x r = Follows x r × (last r ≤ first s)
 
     abbrev pub GoodBelow : ℕ → (S → R) → Type 0
     GoodBelow n f = (s : S) → first s < n → Good s (f s)
 
-    go_on : (lower : S → R) (s : S) → GoodBelow (first s) lower → (x : R ⊎ S) → FallsBelow s x → Goes x (on turn first second never lower x) × (end (on turn first second never lower x) ≤ first s)
+    go_on : (lower : S → R) (s : S) → GoodBelow (first s) lower → (x : R ⊎ S) → FallsInBelow s x → Goes x (on turn first second never lower x) × (last (on turn first second never lower x) ≤ first s)
     go_on lower s g (inl r) f = (over, f)
     go_on lower s g (inr t) f = let h = g t f in (goes h.0, omega arith)
 
-    go_test : (lower again : S → R) (s : S) → GoodBelow (first s) lower → (t : S) → ((first t ≡ first s) → second t < second s → Good t (again t)) → FallsTo s (inr t)
+    go_test : (lower again : S → R) (s : S) → GoodBelow (first s) lower → (t : S) → ((first t ≡ first s) → second t < second s → Good t (again t)) → FallsInTo s (inr t)
         → (b : Bool) → nat_lt (first t) (first s) ≡ b → GoodFrom s (now (inr t)) (elim b [ true ↦ lower t | false ↦ again t ])
     go_test lower again s g t a f true e = let h = g t (ltb-true _ _ e) in (at_once (goes h.0), omega arith)
     go_test lower again s g t a (inl f) false e = absurd (omega (arith, ltb-false _ _ e))
     go_test lower again s g t a (inr f) false e = let h = a f.0 f.1 in (at_once (goes h.0), omega arith)
 
-    follow : (lower again : S → R) (s : S) → GoodBelow (first s) lower → ((t : S) → (first t ≡ first s) → second t < second s → Good t (again t)) → (x : Next S R) → Falls s x
+    follow : (lower again : S → R) (s : S) → GoodBelow (first s) lower → ((t : S) → (first t ≡ first s) → second t < second s → Good t (again t)) → (x : Next S R) → FallsIn s x
         → GoodFrom s x (followed turn first second never lower again (first s) x)
     follow lower again s g a (now (inl r)) f = (at_once over, f)
     follow lower again s g a (now (inr t)) f = go_test lower again s g t (a t) f (nat_lt (first t) (first s)) refl
@@ -105,7 +102,7 @@ module _ {S R : Type 0} (turn : S → Next S R) where
         let h' = go_on lower s g (k (lower t)) (f.1 (lower t) h.1) in
         (asked (lower t) h.0 h'.0, h'.1)
 
-    module _ (falls : (s : S) → Falls s (turn s)) where
+    module _ (falls : AlwaysFalls first second last turn) where
       within : (lower : S → R) (n : ℕ) → GoodBelow n lower → (m : ℕ) (s : S) → first s ≡ n → second s < m → Good s (run_within turn first second never lower m s)
       within lower n g zero s e h = absurd (omega arith)
       within lower n g (suc m) s e h =
@@ -152,30 +149,24 @@ module _ {S R : Type 0} (turn : S → Next S R) where
           onward (inl r) = over
           onward (inr u) = goes (runs u)
 
-      -- what a turn gives a property, if what it leads to has it
       module _ (P : S → R → Type 0) where
-        abbrev pub Goes_on : R ⊎ S → R → Type 0
-        Goes_on (inl q) r = q ≡ r
-        Goes_on (inr t) r = P t r
-
-        -- what may be used of a turn's outcome: the result is at hand, or the next state has the property, or the state asked and then the next one
-        abbrev pub Leads : Next S R → R → Type 0
-        Leads (now x) r = Goes_on x r
-        Leads (ask t k) r = (q : R) × (P t q × Goes_on (k q) r)
-
-        module _ (keeps : (s : S) (r : R) → Leads (turn s) r → P s r) where
+        module _ (keeps : (s : S) (r : R) → HoldsAfter P (turn s) r → P s r) where
           mutual
             by_run : {s : S} {r : R} → Runs s r → P s r
             by_run {s} {r} (turned f) = keeps s r (by_follow f)
 
-            by_follow : {x : Next S R} {r : R} → Follows x r → Leads x r
+            by_follow : {x : Next S R} {r : R} → Follows x r → HoldsAfter P x r
             by_follow (at_once g) = by_go g
             by_follow (asked q h g) = (q, (by_run h, by_go g))
 
-            by_go : {x : R ⊎ S} {r : R} → Goes x r → Goes_on x r
+            by_go : {x : R ⊎ S} {r : R} → Goes x r → HoldsNext P x r
             by_go over = refl
             by_go (goes h) = by_run h
 
           -- induction over turns: what holds of a state whenever it holds of what its turn leads to holds of every state and its run
           pub by_turns : (s : S) → P s (run turn first second never s)
           by_turns s = by_run (runs s)
+
+      -- how many turns a run takes: a number that every turn lowers
+      pub ends : (n : S → ℕ) × ((s t : S) → turn s ≡ now (inr t) → n t < n s)
+      ends = (turns, turns_fall)

@@ -8,6 +8,7 @@ use Rattle.std.specs.Str.{bytes_eq}
 use Rattle.ml_term.specs.Tree.{Tree, Trees, variable, integer, atom, compound, no_trees, tree, has, variables, variables_of, nodes, nodes_of, list_of, arity, occurs, substituted, substituted_in}
 use Rattle.ml_term.specs.Unify.{Equation, Map, Step, dropped, split, bound, clash, step, value_of, applied, binding, Solving, replaced, after, turn_of, turn, distinct, variables_left, nodes_in, nodes_left, solved}
 use Rattle.ml_term.specs.Runs.{Next, now, ask, run}
+use Rattle.ml_term.specs.Falling.{Falls, HoldsAfter}
 use Rattle.ml_term.proofs.Runs as R
 use Rattle.ml_term.proofs.Distinct.{In, has_append, distinct_within, distinct_below}
 
@@ -87,7 +88,7 @@ cond_fits ms size b false x y e h k = rw e (k refl)
 in_one : (n : ℕ) → In n (n ∷ [])
 in_one n = grind (arith, eqb_tells n n)
 
-in_one_only : (k n : ℕ) → In k (n ∷ []) → k ≡ n
+pub in_one_only : (k n : ℕ) → In k (n ∷ []) → k ≡ n
 in_one_only k n h = grind (arith, eqb_tells n k)
 
 not_in : (n k : ℕ) (ms : List ℕ) → has n ms ≡ false → In k ms → k ≢ n
@@ -135,11 +136,11 @@ step_fits (atom f) (atom g) = cond_fits [] 2 (bytes_eq f g) (bytes_eq f g) dropp
 step_fits (compound f ts) (compound g us) = cond_fits (variables_of ts ++ variables_of us) (1 + nodes_of ts + (1 + nodes_of us)) (bytes_eq f g && (arity ts == arity us)) (bytes_eq f g && (arity ts == arity us)) (split (zip (list_of ts) (list_of us))) clash refl (λ _. split_fits ts us) (λ _. tt)
 step_fits t u = tt
 
-abbrev none_left : Option Map → ℕ
+abbrev pub none_left : Option Map → ℕ
 none_left o = 0
 
-abbrev Falls : Solving → Next Solving (Option Map) → Type 0
-Falls = R.Falls turn variables_left nodes_left (λ s. None) none_left
+abbrev pub FallsFrom : Solving → Next Solving (Option Map) → Type 0
+FallsFrom = Falls variables_left nodes_left none_left
 
 fall : (a b c d : ℕ) → a ≤ b → c < d → (a < b) ⊎ ((a ≡ b) × (c < d))
 fall a b c d h k = grind arith
@@ -148,7 +149,7 @@ size_append : (us es : List Equation) → nodes_in (us ++ es) ≡ nodes_in us + 
 size_append [] es = omega arith
 size_append (u ∷ us) es = omega (arith, size_append us es)
 
-equations_either : (k : ℕ) (us es : List Equation) → In k (equations_variables (us ++ es)) → In k (equations_variables us) ⊎ In k (equations_variables es)
+pub equations_either : (k : ℕ) (us es : List Equation) → In k (equations_variables (us ++ es)) → In k (equations_variables us) ⊎ In k (equations_variables es)
 equations_either k [] es h = inr h
 equations_either k (u ∷ us) es h = elim (in_either k (equation_variables u) (equations_variables (us ++ es)) h) [
   | inl i ↦ inl (in_left k (equation_variables u) (equations_variables us) i)
@@ -159,7 +160,7 @@ nodes_pos : (t : Tree) → 1 ≤ nodes t
 nodes_pos (compound f ts) = omega arith
 nodes_pos _ = omega arith
 
-after_falls : (e : Equation) (es : List Equation) (m : Map) (x : Step) → Fits (equation_variables e) (nodes e.0 + nodes e.1) x → Falls (record { left = e ∷ es; map = m }) (after x es m)
+after_falls : (e : Equation) (es : List Equation) (m : Map) (x : Step) → Fits (equation_variables e) (nodes e.0 + nodes e.1) x → FallsFrom (record { left = e ∷ es; map = m }) (after x es m)
 after_falls e es m clash f = omega arith
 after_falls e es m dropped f =
     fall _ _ _ _ (distinct_within (equations_variables es) (equation_variables e ++ equations_variables es) (λ k i. in_right k (equation_variables e) (equations_variables es) i)) (omega (arith, nodes_pos e.0))
@@ -174,11 +175,11 @@ after_falls e es m (bound n t) f =
     [ inl j ↦ (in_left k (equation_variables e) (equations_variables es) (f.1 k j).0, (f.1 k j).1) | inr j ↦ (in_right k (equation_variables e) (equations_variables es) j.0, j.1) ])
     (in_left n (equation_variables e) (equations_variables es) f.0))
 
-turn_of_falls : (es : List Equation) (m : Map) → Falls (record { left = es; map = m }) (turn_of es m)
+turn_of_falls : (es : List Equation) (m : Map) → FallsFrom (record { left = es; map = m }) (turn_of es m)
 turn_of_falls [] m = omega arith
 turn_of_falls (e ∷ es) m = after_falls e es m (step e.0 e.1) (step_fits e.0 e.1)
 
-pub turn_falls : (s : Solving) → Falls s (turn s)
+pub turn_falls : (s : Solving) → FallsFrom s (turn s)
 turn_falls s = turn_of_falls s.left s.map
 
 -- unification by its turns
@@ -197,3 +198,8 @@ turns = R.turns turn variables_left nodes_left (λ s. None) none_left turn_falls
 pub turns_fall : (s t : Solving) → turn s ≡ now (inr t) → turns t < turns s
 unfolding turns
 turns_fall = R.turns_fall turn variables_left nodes_left (λ s. None) none_left turn_falls
+
+-- induction over the turns of unification
+pub by_turns : (P : Solving → Option Map → Type 0) → ((s : Solving) (r : Option Map) → HoldsAfter P (turn s) r → P s r) → (es : List Equation) (m : Map) → P (record { left = es; map = m }) (solved es m)
+unfolding solved
+by_turns P keeps es m = R.by_turns turn variables_left nodes_left (λ s. None) none_left turn_falls P keeps (record { left = es; map = m })

@@ -13,3 +13,4 @@ pub mod Patterns
 pub mod Seen
 pub mod Rows
 pub mod Unifiers
+pub mod Falling

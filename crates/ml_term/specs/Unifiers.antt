@@ -1,7 +1,7 @@
 -- What a map of unification is for: the substitutions that make equations' sides equal, and how one map follows another.
 use Rattle.std.specs.Prelude.{◌≡◌, ℕ, List, [], ◌∷◌, ◌++◌, map, Option, Some, None}
 use Rattle.ml_term.specs.Tree.{Tree, substituted}
-use Rattle.ml_term.specs.Unify.{Equation, Map, applied, solved}
+use Rattle.ml_term.specs.Unify.{Equation, Map, Step, dropped, split, bound, clash, binding, applied, solved}
 
 -- whether a substitution makes the two sides of each equation equal
 abbrev pub Unifies : (ℕ → Tree) → List Equation → Type 0
@@ -37,3 +37,10 @@ solved_after fs (Some m) = solved (under m fs) m
 -- the variables that a map replaces
 abbrev pub replaced_variables : Map → List ℕ
 replaced_variables m = map (λ b. b.0) m
+
+-- What the rules of unification lead to, by what they say of the first equation: the definition counts turns so as to end, and this does not.
+abbrev pub solved_by_step : Step → List Equation → Map → Option Map
+solved_by_step dropped es m = solved es m
+solved_by_step (split us) es m = solved (us ++ es) m
+solved_by_step (bound n t) es m = solved (under (binding n t) es) (followed_by m (binding n t))
+solved_by_step clash es m = None

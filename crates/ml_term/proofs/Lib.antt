@@ -7,3 +7,4 @@ pub mod StepsSay
 pub mod MapsFollow
 pub mod MostGeneral
 pub mod Solved
+pub mod OneUnifier

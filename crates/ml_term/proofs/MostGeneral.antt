@@ -110,7 +110,7 @@ bound_kept n t j k h = elim (eqb_tells n j) [
   | inr q ↦ inl (grind (arith, eqb_tells j k, rw q.0 at h), q.1)
 ]
 
-not_in_false : (k : ℕ) (ms : List ℕ) (b : Bool) → has k ms ≡ b → (In k ms → ⊥) → b ≡ false
+pub not_in_false : (k : ℕ) (ms : List ℕ) (b : Bool) → has k ms ≡ b → (In k ms → ⊥) → b ≡ false
 not_in_false k ms true e h = absurd (h e)
 not_in_false k ms false e h = refl
 
@@ -137,9 +137,9 @@ module _ (e : Equation) (es : List Equation) (n : ℕ) (t : Tree) (w : Map) (say
       let c = comes (value_of w) k (value_of (binding n t) j) (subst (λ z. In k (variables z)) (value_of_followed (binding n t) w j) i) in
       elim (u.kept c.0 k c.1.1) [
         | inl q ↦ elim (bound_kept n t j k (subst (λ z. In z (variables (value_of (binding n t) j))) (sym q) c.1.0)) [
-            | inl p ↦ inl p
-            | inr p ↦ inr (in_left k (equation_variables e) (equations_variables es) (fits.1 k p.0).0, (fits.1 k p.0).1)
-          ]
+          | inl p ↦ inl p
+          | inr p ↦ inr (in_left k (equation_variables e) (equations_variables es) (fits.1 k p.0).0, (fits.1 k p.0).1)
+        ]
         | inr q ↦ inr (came k q)
       ]
 

@@ -166,7 +166,3 @@ module _ {S R : Type 0} (turn : S → Next S R) where
           -- induction over turns: what holds of a state whenever it holds of what its turn leads to holds of every state and its run
           pub by_turns : (s : S) → P s (run turn first second never s)
           by_turns s = by_run (runs s)
-
-      -- how many turns a run takes: a number that every turn lowers
-      pub ends : (n : S → ℕ) × ((s t : S) → turn s ≡ now (inr t) → n t < n s)
-      ends = (turns, turns_fall)

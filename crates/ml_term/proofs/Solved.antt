@@ -98,3 +98,6 @@ turn_in_parts fs (e ∷ es) m r l = solved_step e (es ++ under m fs) m ∙ step_
 
 pub solved_in_parts : (es fs : List Equation) (m : Map) → solved (es ++ under m fs) m ≡ solved_after fs (solved es m)
 solved_in_parts es fs m = by_turns (InParts fs) (λ s r l. turn_in_parts fs s.left s.map r l) es m
+
+pub mgu_in_parts : (es fs : List Equation) → solved (es ++ fs) [] ≡ solved_after fs (solved es [])
+mgu_in_parts es fs = ap (λ z. solved (es ++ z) []) (sym (under_empty fs)) ∙ solved_in_parts es fs []

@@ -114,4 +114,3 @@ stays n w h = alike (value_of (binding n w)) variable w (λ k i. elim (eqb_tells
 pub says_of_itself : (s : ℕ → Tree) (n : ℕ) (w : Tree) → has n (variables w) ≡ false → substituted s (value_of (binding n w) n) ≡ substituted (λ k. substituted s (value_of (binding n w) k)) w
 says_of_itself s n w h =
     elim (eqb_tells n n) [ inl q ↦ rw q.0 (ap (substituted s) (sym (stays n w h)) ∙ twice s (value_of (binding n w)) w) | inr q ↦ absurd (q.1 refl) ]
-

@@ -203,3 +203,6 @@ turns_fall = R.turns_fall turn variables_left nodes_left (λ s. None) none_left 
 pub by_turns : (P : Solving → Option Map → Type 0) → ((s : Solving) (r : Option Map) → HoldsAfter P (turn s) r → P s r) → (es : List Equation) (m : Map) → P (record { left = es; map = m }) (solved es m)
 unfolding solved
 by_turns P keeps es m = R.by_turns turn variables_left nodes_left (λ s. None) none_left turn_falls P keeps (record { left = es; map = m })
+
+pub next_falls : (s t : Solving) → turn s ≡ now (inr t) → (variables_left t < variables_left s) ⊎ ((variables_left t ≡ variables_left s) × (nodes_left t < nodes_left s))
+next_falls s t e = subst (FallsFrom s) e (turn_falls s)

@@ -1,6 +1,7 @@
 -- What a map of unification is for: the substitutions that make equations' sides equal, and how one map follows another.
 use Rattle.std.specs.Prelude.{◌≡◌, ℕ, List, [], ◌∷◌, ◌++◌, map, Option, Some, None}
-use Rattle.ml_term.specs.Tree.{Tree, substituted}
+use Rattle.std.specs.List.{flat_map}
+use Rattle.ml_term.specs.Tree.{Tree, variables, substituted}
 use Rattle.ml_term.specs.Unify.{Equation, Map, Step, dropped, split, bound, clash, binding, applied, solved}
 
 -- whether a substitution makes the two sides of each equation equal
@@ -44,3 +45,7 @@ solved_by_step dropped es m = solved es m
 solved_by_step (split us) es m = solved (us ++ es) m
 solved_by_step (bound n t) es m = solved (under (binding n t) es) (followed_by m (binding n t))
 solved_by_step clash es m = None
+
+-- the variables of some equations
+abbrev pub variables_in : List Equation → List ℕ
+variables_in = flat_map (λ e. variables e.0 ++ variables e.1)

@@ -8,6 +8,7 @@ mod args;
 mod declaration;
 mod name;
 mod term;
+pub mod unification_laws;
 
 pub use args::ArgsOf;
 pub use declaration::{Decl, Keys, Kind, Pred};

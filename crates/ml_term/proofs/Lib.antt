@@ -8,3 +8,7 @@ pub mod MapsFollow
 pub mod MostGeneral
 pub mod Solved
 pub mod OneUnifier
+pub mod Renaming
+pub mod Columns
+pub mod Fitting
+pub mod Ground

@@ -30,7 +30,7 @@ none_given es (Some v) g e = absurd (cc e)
 pub no_unifier : (es : List Equation) → mgu es ≡ None → (s : ℕ → Tree) → Unifies s es → ⊥
 no_unifier es = none_given es (mgu es) (solved_gives es [])
 
-some_or_none : (r : Option Map) → ((m : Map) × (r ≡ Some m)) ⊎ (r ≡ None)
+pub some_or_none : (r : Option Map) → ((m : Map) × (r ≡ Some m)) ⊎ (r ≡ None)
 some_or_none None = inr refl
 some_or_none (Some m) = inl (m, refl)
 

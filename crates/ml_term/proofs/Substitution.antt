@@ -89,6 +89,21 @@ mutual
     | inr i ↦ let c = comes_of s k ts i in (c.0, (in_right c.0 (variables t) (variables_of ts) c.1.0, c.1.1))
   ]
 
+mutual
+  -- and the other way round
+  pub goes : (s : ℕ → Tree) (t : Tree) (j k : ℕ) → In j (variables t) → In k (variables (s j)) → In k (variables (substituted s t))
+  goes s (variable n) j k h i = elim (eqb_tells n j) [ inl q ↦ rw q.1 i | inr q ↦ absurd (grind (arith, q, h)) ]
+  goes s (integer z) j k h i = absurd (cc h)
+  goes s (atom f) j k h i = absurd (cc h)
+  goes s (compound f ts) j k h i = goes_of s ts j k h i
+
+  pub goes_of : (s : ℕ → Tree) (ts : Trees) (j k : ℕ) → In j (variables_of ts) → In k (variables (s j)) → In k (variables_of (substituted_in s ts))
+  goes_of s no_trees j k h i = absurd (cc h)
+  goes_of s (tree t ts) j k h i = elim (in_either j (variables t) (variables_of ts) h) [
+    | inl p ↦ in_left k (variables (substituted s t)) (variables_of (substituted_in s ts)) (goes s t j k p i)
+    | inr p ↦ in_right k (variables (substituted s t)) (variables_of (substituted_in s ts)) (goes_of s ts j k p i)
+  ]
+
 pub arity_kept : (s : ℕ → Tree) (ts : Trees) → arity (substituted_in s ts) ≡ arity ts
 arity_kept s no_trees = refl
 arity_kept s (tree t ts) = ap (λ n. 1 + n) (arity_kept s ts)

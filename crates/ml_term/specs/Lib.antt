@@ -14,3 +14,4 @@ pub mod Seen
 pub mod Rows
 pub mod Unifiers
 pub mod Falling
+pub mod Instances

@@ -7,6 +7,7 @@
 mod args;
 mod declaration;
 mod name;
+pub mod pattern_laws;
 mod term;
 pub mod unification_laws;
 

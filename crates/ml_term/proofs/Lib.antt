@@ -12,3 +12,4 @@ pub mod Renaming
 pub mod Columns
 pub mod Fitting
 pub mod Ground
+pub mod Completing

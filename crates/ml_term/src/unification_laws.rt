@@ -1,7 +1,8 @@
 //! Laws of runs and of unification. The functions do nothing: their contracts are the laws, for the layers above and for the reader.
 ghost use Rattle.std.specs.Prelude.{◌≡◌, ℕ, ◌+◌, ◌<◌, ◌≤◌, ◌↔◌, ◌⊎◌, Bool, IsTrue, List, [], ◌∷◌, ◌++◌, IsSome};
 ghost use Rattle.std.proofs.Common.{inl, inr};
-ghost use Rattle.ml_term.specs.Tree.{Tree, variable, has, occurs, variables, substituted};
+ghost use Rattle.ml_term.specs.Tree.{Tree, variable, has, occurs, substituted, renamed, width};
+ghost use Rattle.ml_term.specs.Instances.{HaveACommonInstance, AreApart};
 ghost use Rattle.ml_term.specs.Runs.{Next, now, ask, on, run};
 ghost use Rattle.ml_term.specs.Falling.{AlwaysFalls, HoldsAfter};
 ghost use Rattle.ml_term.specs.Keys.{are_different};
@@ -84,3 +85,18 @@ pub fn unification_goes_in_parts()
     ensures parts { (es fs : List Equation) → mgu (es ++ fs) ≡ solved_after fs (mgu es) }
     ensures parts_from { (es fs : List Equation) (m : Map) → solved (es ++ under m fs) m ≡ solved_after fs (solved es m) }
 {}
+
+/// Unification with a term whose variables are numbered anew, as those of a clause when it is entered.
+/// `range`: its variables are the numbers from the given one on, as many as it has different variables.
+/// `apart`: where no variable stands in both, a unifier is found exactly if both terms have a common instance, whatever numbers were taken.
+/// `anyhow`: where one is found, they have a common instance, even if the two share variables.
+pub fn unification_with_a_renamed_term()
+    ensures range {
+        (next : ℕ) (t : Tree) (n : ℕ) → IsTrue (occurs n (renamed next t)) → (next ≤ n) × (n < next + width t)
+    }
+    ensures apart {
+        (next : ℕ) (t u : Tree) → AreApart t (renamed next u) → IsSome (unifier t (renamed next u)) ↔ HaveACommonInstance t u
+    }
+    ensures anyhow { (next : ℕ) (t u : Tree) → IsSome (unifier t (renamed next u)) → HaveACommonInstance t u }
+{
+}

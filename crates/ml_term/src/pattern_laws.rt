@@ -66,10 +66,14 @@ pub fn keys_of_items_that_meet_fit()
         IsSome (unifier pattern t) → IsTrue (fits (pattern_of keys pattern) (tuple_key keys t)) }
 {}
 
-/// A prefix may hold each fitting key that it begins.
+/// Which prefixes may hold a fitting key.
+/// `each`: one that begins a fitting key may hold it. `exactly`: and one that may hold a fitting key begins some key that fits the head's pattern.
 pub fn prefixes_of_fitting_keys_hold()
-    ensures { (pattern : List (Option (List Bool))) (prefix key : List Bool) →
+    ensures each { (pattern : List (Option (List Bool))) (prefix key : List Bool) →
         IsTrue (fits pattern key) → IsTrue (begins prefix key) → IsTrue (may_hold pattern prefix) }
+    ensures exactly { (keys : List ℕ) (head : Tree) (prefix : List Bool) →
+        IsTrue (may_hold (pattern_of keys head) prefix) ↔
+        ((key : List Bool) × (IsTrue (begins prefix key) × IsTrue (fits (pattern_of keys head) key))) }
 {}
 
 /// Where a key has the codes of the keyed arguments.

@@ -91,12 +91,7 @@ pub fn unification_goes_in_parts()
 /// `apart`: where no variable stands in both, a unifier is found exactly if both terms have a common instance, whatever numbers were taken.
 /// `anyhow`: where one is found, they have a common instance, even if the two share variables.
 pub fn unification_with_a_renamed_term()
-    ensures range {
-        (next : ℕ) (t : Tree) (n : ℕ) → IsTrue (occurs n (renamed next t)) → (next ≤ n) × (n < next + width t)
-    }
-    ensures apart {
-        (next : ℕ) (t u : Tree) → AreApart t (renamed next u) → IsSome (unifier t (renamed next u)) ↔ HaveACommonInstance t u
-    }
+    ensures range { (next : ℕ) (t : Tree) (n : ℕ) → IsTrue (occurs n (renamed next t)) → (next ≤ n) × (n < next + width t) }
+    ensures apart { (next : ℕ) (t u : Tree) → AreApart t (renamed next u) → IsSome (unifier t (renamed next u)) ↔ HaveACommonInstance t u }
     ensures anyhow { (next : ℕ) (t u : Tree) → IsSome (unifier t (renamed next u)) → HaveACommonInstance t u }
-{
-}
+{}

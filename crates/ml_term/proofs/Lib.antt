@@ -17,3 +17,4 @@ pub mod Sizes
 pub mod Views
 pub mod Orderings
 pub mod DefaultKeys
+pub mod Numbering

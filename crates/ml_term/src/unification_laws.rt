@@ -1,7 +1,7 @@
 //! Laws of runs and of unification. The functions do nothing: their contracts are the laws, for the layers above and for the reader.
 ghost use Rattle.std.specs.Prelude.{◌≡◌, ℕ, ◌+◌, ◌<◌, ◌≤◌, ◌↔◌, ◌⊎◌, Bool, IsTrue, List, [], ◌∷◌, ◌++◌, IsSome};
 ghost use Rattle.std.proofs.Common.{inl, inr};
-ghost use Rattle.ml_term.specs.Tree.{Tree, variable, has, occurs, substituted, renamed, width};
+ghost use Rattle.ml_term.specs.Tree.{Tree, variable, has, occurs, variables, nodes, substituted, renamed, width, firsts, counts_from, is_numbered};
 ghost use Rattle.ml_term.specs.Instances.{HaveACommonInstance, AreApart};
 ghost use Rattle.ml_term.specs.Runs.{Next, now, ask, on, run};
 ghost use Rattle.ml_term.specs.Falling.{AlwaysFalls, HoldsAfter};
@@ -95,3 +95,24 @@ pub fn unification_with_a_renamed_term()
     ensures apart { (next : ℕ) (t u : Tree) → AreApart t (renamed next u) → IsSome (unifier t (renamed next u)) ↔ HaveACommonInstance t u }
     ensures anyhow { (next : ℕ) (t u : Tree) → IsSome (unifier t (renamed next u)) → HaveACommonInstance t u }
 {}
+
+/// A term numbered anew, as a stored clause is from 0 and an entered one from the next number.
+/// `counts`: by first place its variables are the given number and those that follow it. `again`: what it was numbered before doesn't matter.
+/// `stays`: a term that is numbered from 0 stays as it is. `width`, `nodes`: there are as many different variables, and as many nodes.
+pub fn renaming_numbers_anew()
+    ensures counts { (next : ℕ) (t : Tree) → IsTrue (counts_from next (firsts (variables (renamed next t)))) }
+    ensures again { (next before : ℕ) (t : Tree) → renamed next (renamed before t) ≡ renamed next t }
+    ensures stays { (t : Tree) → IsTrue (is_numbered t) → renamed 0 t ≡ t }
+    ensures width { (next : ℕ) (t : Tree) → width (renamed next t) ≡ width t }
+    ensures nodes { (next : ℕ) (t : Tree) → nodes (renamed next t) ≡ nodes t }
+{}
+
+#[cfg(test)]
+mod tests {
+    use super::*;
+
+    #[test]
+    fn runs_of_any_types_go_by_turns() {
+        runs_go_by_turns::<u64, bool>();
+    }
+}

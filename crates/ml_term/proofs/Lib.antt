@@ -27,3 +27,4 @@ pub mod KeyOrder
 pub mod Arguments
 pub mod DefaultKeys
 pub mod Numbering
+pub mod KeysApart

@@ -4,7 +4,7 @@ use Rattle.std.specs.Option.{is_some}
 use Rattle.std.proofs.Common.{inl, inr, refl, sym, ap, ◌∙◌, subst, arith}
 use Rattle.std.proofs.lemmas.Bool.Decides.{eqb_tells}
 use Rattle.ml_term.specs.Tree.{Tree, variable, has, variables, substituted}
-use Rattle.ml_term.specs.Unify.{Equation, Map, value_of, applied, mgu}
+use Rattle.ml_term.specs.Unify.{Equation, Map, value_of, applied, mgu, unifier}
 use Rattle.ml_term.specs.Unifiers.{Unifies, HaveTheSameUnifiers, replaced_variables}
 use Rattle.ml_term.proofs.Distinct.{In}
 use Rattle.ml_term.proofs.Substitution.{twice, alike, as_it_is, comes}
@@ -87,4 +87,10 @@ pub both_found : (es fs : List Equation) → HaveTheSameUnifiers es fs → IsSom
 both_found es fs same = (
   (λ h. let s = (unified_exactly es).0 h in (unified_exactly fs).1 (s.0, (same s.0).0 s.1)),
   (λ h. let s = (unified_exactly fs).0 h in (unified_exactly es).1 (s.0, (same s.0).1 s.1)),
+)
+
+pub terms_unified_exactly : (t u : Tree) → IsSome (unifier t u) ↔ ((s : ℕ → Tree) × (substituted s t ≡ substituted s u))
+terms_unified_exactly t u = (
+  (λ h. let s = (unified_exactly ((t, u) ∷ [])).0 h in (s.0, s.1.0)),
+  (λ h. (unified_exactly ((t, u) ∷ [])).1 (h.0, (h.1, tt))),
 )

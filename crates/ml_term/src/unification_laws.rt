@@ -41,7 +41,7 @@ pub fn unification_goes_by_its_rules()
 
 /// What unification gives is a most general unifier.
 /// `unifies`: the map makes the sides of each equation equal.
-/// `general`: each substitution that makes the sides equal factors through the map. Indeed the map changes nothing before it.
+/// `general`: each substitution that makes the sides equal factors through the map: it gives the same, whether the map is applied first or not.
 /// `idempotent`: the map applied twice is the map applied once.
 pub fn unification_is_most_general()
     ensures unifies { (es : List Equation) (m : Map) → mgu es ≡ Some m → Unifies (value_of m) es }
@@ -50,9 +50,10 @@ pub fn unification_is_most_general()
     ensures idempotent { (es : List Equation) (m : Map) → mgu es ≡ Some m → (t : Tree) → applied m (applied m t) ≡ applied m t }
 {}
 
-/// Unification gives none exactly where no substitution makes the sides of the equations equal.
+/// Unification gives none exactly where no substitution makes the sides of the equations equal, and for two terms where none makes them equal.
 pub fn unification_finds_each_unifier()
-    ensures { (es : List Equation) → IsSome (mgu es) ↔ ((s : ℕ → Tree) × Unifies s es) }
+    ensures equations { (es : List Equation) → IsSome (mgu es) ↔ ((s : ℕ → Tree) × Unifies s es) }
+    ensures terms { (t u : Tree) → IsSome (unifier t u) ↔ ((s : ℕ → Tree) × (substituted s t ≡ substituted s u)) }
 {}
 
 /// What a map of unification replaces, and what it leaves.

@@ -146,18 +146,25 @@ length_of_interleaved (suc n) cs =
     let p : suc n * length cs ≡ length cs + n * length cs = omega arith in
     omega (arith, p, length-append (map first_bit cs) (interleaved n (map (drop 1) cs)), length-map cs first_bit, length_of_interleaved n (map (drop 1) cs), ap (λ z. n * z) (length-map cs (drop 1)))
 
+pub codes_as_long : (keys : List ℕ) (t : Tree) → length (map code (keyed_arguments keys t)) ≡ length keys
+codes_as_long keys t = length-map (keyed_arguments keys t) code ∙ length-map keys (λ k. argument k (arguments t))
+
 pub length_of_key_head : (keys : List ℕ) (t : Tree) → length (key_head keys t) ≡ 64 * length keys
 length_of_key_head keys t =
-    length_of_interleaved 64 (map code (keyed_arguments keys t)) ∙ ap (λ z. 64 * z) (length-map (keyed_arguments keys t) code ∙ length-map keys (λ k. argument k (arguments t)))
+    length_of_interleaved 64 (map code (keyed_arguments keys t)) ∙ ap (λ z. 64 * z) (codes_as_long keys t)
+
+-- the codes of keyed arguments, with one of them named
+pub codes_split : (before after : List ℕ) (k : ℕ) (t : Tree)
+    → map code (keyed_arguments (before ++ k ∷ after) t) ≡ map code (keyed_arguments before t) ++ code (argument k (arguments t)) ∷ map code (keyed_arguments after t)
+codes_split before after k t =
+    let at = λ (j : ℕ). argument j (arguments t) in
+    ap (map code) (map-append at before (k ∷ after)) ∙ map-append code (map at before) (map at (k ∷ after))
 
 pub code_found : (before after : List ℕ) (k : ℕ) (t : Tree) (tail : List Bool)
     → attribute (length (before ++ k ∷ after)) (length before) (key_head (before ++ k ∷ after) t ++ tail) ≡ code (argument k (arguments t))
 code_found before after k t tail =
-    let at = λ (ks : List ℕ). codes_of ks (arguments t) in
-    let parts : at (before ++ k ∷ after) ≡ at before ++ code (argument k (arguments t)) ∷ at after =
-    ap (map code) (map-append (λ j. argument j (arguments t)) before (k ∷ after)) ∙ map-append code (map (λ j. argument j (arguments t)) before) (map (λ j. argument j (arguments t)) (k ∷ after)) in
-    let whole : length (before ++ k ∷ after) ≡ length (at before ++ code (argument k (arguments t)) ∷ at after) =
-    sym (length-map (map (λ j. argument j (arguments t)) (before ++ k ∷ after)) code ∙ length-map (before ++ k ∷ after) (λ j. argument j (arguments t))) ∙ ap length parts in
-    let place : length before ≡ length (at before) = sym (length-map (map (λ j. argument j (arguments t)) before) code ∙ length-map before (λ j. argument j (arguments t))) in
+    let parts = codes_split before after k t in
+    let whole : length (before ++ k ∷ after) ≡ length (map code (keyed_arguments before t) ++ code (argument k (arguments t)) ∷ map code (keyed_arguments after t)) =
+        sym (codes_as_long (before ++ k ∷ after) t) ∙ ap length parts in
     ap (λ z. attribute (length (before ++ k ∷ after)) (length before) (interleaved 64 z ++ tail)) parts
-    ∙ attribute_at (at before) (argument k (arguments t)) (at after) tail (length (before ++ k ∷ after)) (length before) whole place
+    ∙ attribute_at (map code (keyed_arguments before t)) (argument k (arguments t)) (map code (keyed_arguments after t)) tail (length (before ++ k ∷ after)) (length before) whole (sym (codes_as_long before t))

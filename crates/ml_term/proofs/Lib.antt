@@ -28,3 +28,4 @@ pub mod Arguments
 pub mod DefaultKeys
 pub mod Numbering
 pub mod KeysApart
+pub mod Places

@@ -1,5 +1,5 @@
 //! Laws of patterns: ground terms, keys that fit, and prefixes of keys. The functions do nothing: their contracts are the laws.
-ghost use Rattle.std.specs.Prelude.{◌≡◌, ◌≢◌, ℕ, ◌+◌, ◌*◌, ◌^◌, ◌<◌, ◌↔◌, Bool, IsTrue, List, [], ◌∷◌, ◌++◌, map, length, Option, Some, None, IsSome};
+ghost use Rattle.std.specs.Prelude.{◌≡◌, ◌≢◌, ℕ, ◌+◌, ◌*◌, ◌^◌, ◌<◌, ◌↔◌, Bool, IsTrue, List, [], ◌∷◌, ◌++◌, map, length, slice_get, Option, Some, None, IsSome};
 ghost use Rattle.std.specs.List.{zip};
 ghost use Rattle.ml_term.specs.Tree.{Tree, Trees, variable, compound, compound_2, trees_of, list_of, arity, occurs, is_ground, substituted, renamed};
 ghost use Rattle.ml_term.specs.Unify.{Equation, Map, value_of, applied, binding, solved, mgu, unifier};
@@ -80,10 +80,14 @@ pub fn prefixes_of_fitting_keys_hold()
 
 /// Where a key has the codes of the keyed arguments.
 /// `length`: a code has 64 bits, and so `head`: the codes of a key together have 64 bits for each keyed argument.
-/// `found`: the bits of a keyed argument's place are its code, whatever the key's tail is.
+/// `places`: bit j of the code of the i-th keyed argument, both from 0, stands at place j * a + i, where a arguments are keyed.
+/// `found`: so the bits of that argument's places are its code, whatever the key's tail is.
 pub fn keys_have_codes()
     ensures length { (t : Tree) → length (code t) ≡ 64 }
     ensures head { (keys : List ℕ) (t : Tree) → length (key_head keys t) ≡ 64 * length keys }
+    ensures places { (before after : List ℕ) (k : ℕ) (t : Tree) (tail : List Bool) (j : ℕ) → j < 64 →
+        slice_get (key_head (before ++ k ∷ after) t ++ tail) (j * length (before ++ k ∷ after) + length before)
+            ≡ slice_get (code (argument k (arguments t))) j }
     ensures found { (before after : List ℕ) (k : ℕ) (t : Tree) (tail : List Bool) →
         attribute (length (before ++ k ∷ after)) (length before) (key_head (before ++ k ∷ after) t ++ tail) ≡ code (argument k (arguments t)) }
 {}

@@ -165,6 +165,6 @@ pub code_found : (before after : List ℕ) (k : ℕ) (t : Tree) (tail : List Boo
 code_found before after k t tail =
     let parts = codes_split before after k t in
     let whole : length (before ++ k ∷ after) ≡ length (map code (keyed_arguments before t) ++ code (argument k (arguments t)) ∷ map code (keyed_arguments after t)) =
-        sym (codes_as_long (before ++ k ∷ after) t) ∙ ap length parts in
+    sym (codes_as_long (before ++ k ∷ after) t) ∙ ap length parts in
     ap (λ z. attribute (length (before ++ k ∷ after)) (length before) (interleaved 64 z ++ tail)) parts
     ∙ attribute_at (map code (keyed_arguments before t)) (argument k (arguments t)) (map code (keyed_arguments after t)) tail (length (before ++ k ∷ after)) (length before) whole (sym (codes_as_long before t))

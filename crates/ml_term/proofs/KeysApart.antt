@@ -1,15 +1,12 @@
 -- Items of a file have different keys, and none begins another: the tails of their keys tell them apart.
-use Rattle.std.specs.Prelude.{◌≡◌, ℕ, zero, suc, ◌+◌, ◌*◌, ◌<◌, ◌≤◌, ◌^◌, nat_lt, nat_le, Bool, true, false, ◌&&◌, ℤ, pos, negsuc, List, [], ◌∷◌, ◌++◌, map, length, IsTrue}
-use Rattle.std.specs.Int.{bytes_high_first, byte_at, to_be_bytes, from_be_bytes, w32, w64}
-use Rattle.std.specs.List.{list_all}
-use Rattle.std.specs.declared.cmp.Ordering.TheVariants.{Equal}
-use Rattle.std.specs.Ordering.{nat_cmp, bool_cmp}
+use Rattle.std.specs.Prelude.{◌≡◌, ℕ, ◌<◌, ◌^◌, Bool, true, ℤ, pos, negsuc, List, [], ◌∷◌, ◌++◌, length}
+use Rattle.std.specs.Int.{to_be_bytes, from_be_bytes, w32, w64}
+use Rattle.std.specs.Ordering.{bool_cmp}
 use Rattle.std.specs.Cmp.Lexicographic.{slice_cmp}
-use Rattle.std.proofs.Common.{refl, sym, ap, ◌∙◌, subst, arith, append_assoc}
+use Rattle.std.proofs.Common.{refl, sym, ap, ◌∙◌, arith, append_assoc}
 use Rattle.std.proofs.lemmas.Bool.{ltb-true}
 use Rattle.std.proofs.lemmas.Nat.{from_be_bytes-to_be_bytes_4, from_be_bytes-to_be_bytes_8}
 use Rattle.ml_term.specs.Tree.{Tree, Trees, variable, integer, atom, compound, no_trees, tree, arity}
-use Rattle.ml_term.specs.Names.{is_name}
 use Rattle.ml_term.specs.Valid.{is_in_range, is_valid, are_valid}
 use Rattle.ml_term.specs.CanonicalBytes.{counted, name_bytes, bytes_of, bytes_of_all}
 use Rattle.ml_term.specs.Codes.{bits, byte_bits}
@@ -19,7 +16,7 @@ use Rattle.ml_term.proofs.Bits.{are_bytes, bits_compare}
 use Rattle.ml_term.proofs.Orderings.{equal_numbers, same}
 use Rattle.ml_term.proofs.CanonicalOrder.{counted_below}
 use Rattle.ml_term.proofs.ValidBytes.{valid_bytes}
-use Rattle.ml_term.proofs.Columns.{and_first, and_second, same_bit_equal, begins_with_rest}
+use Rattle.ml_term.proofs.Columns.{and_first, and_second, same_bit_equal}
 use Rattle.ml_term.proofs.Fitting.{length_of_bits, length_of_key_head}
 
 -- lists of one length that begin two equal ones are equal, and so is what follows

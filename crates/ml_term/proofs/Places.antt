@@ -1,6 +1,6 @@
 -- Where each bit of interleaved lists stands.
 use Rattle.std.specs.Prelude.{◌≡◌, ℕ, zero, suc, ◌+◌, ◌*◌, ◌<◌, Bool, List, [], ◌∷◌, ◌++◌, map, length, drop, slice_get, Some}
-use Rattle.std.proofs.Common.{refl, sym, ap, ◌∙◌, arith, append_assoc, length-append}
+use Rattle.std.proofs.Common.{refl, sym, ap, ◌∙◌, arith, append_assoc}
 use Rattle.std.proofs.lemmas.List.{map-append, length-map}
 use Rattle.ml_term.specs.Tree.{Tree}
 use Rattle.ml_term.specs.Codes.{code}
@@ -40,7 +40,7 @@ place_interleaved (suc n) xs (b ∷ c) ys tail (suc j) l h =
     let at : suc j * length cs + length xs ≡ length row + (j * length cs + length xs) = omega (arith, length-map cs first_bit) in
     let others : map (drop 1) cs ≡ map (drop 1) xs ++ c ∷ map (drop 1) ys = map-append (drop 1) xs ((b ∷ c) ∷ ys) in
     let as_many : j * length cs + length xs ≡ j * length (map (drop 1) xs ++ c ∷ map (drop 1) ys) + length (map (drop 1) xs) =
-        ap (λ z. j * z + length xs) (sym (length-map cs (drop 1)) ∙ ap length others) ∙ ap (λ z. j * length (map (drop 1) xs ++ c ∷ map (drop 1) ys) + z) (sym (length-map xs (drop 1))) in
+    ap (λ z. j * z + length xs) (sym (length-map cs (drop 1)) ∙ ap length others) ∙ ap (λ z. j * length (map (drop 1) xs ++ c ∷ map (drop 1) ys) + z) (sym (length-map xs (drop 1))) in
     ap (λ z. slice_get z (suc j * length cs + length xs)) (append_assoc row rest tail)
     ∙ (ap (slice_get (row ++ (rest ++ tail))) at
     ∙ (bit_behind row (rest ++ tail) (j * length cs + length xs)
@@ -56,6 +56,6 @@ bit_of_key before after k t tail j l =
     let ys = map code (keyed_arguments after t) in
     let parts : map code (keyed_arguments (before ++ k ∷ after) t) ≡ xs ++ c ∷ ys = codes_split before after k t in
     let at : j * length (before ++ k ∷ after) + length before ≡ j * length (xs ++ c ∷ ys) + length xs =
-        ap (λ z. j * z + length before) (sym (codes_as_long (before ++ k ∷ after) t) ∙ ap length parts) ∙ ap (λ z. j * length (xs ++ c ∷ ys) + z) (sym (codes_as_long before t)) in
+    ap (λ z. j * z + length before) (sym (codes_as_long (before ++ k ∷ after) t) ∙ ap length parts) ∙ ap (λ z. j * length (xs ++ c ∷ ys) + z) (sym (codes_as_long before t)) in
     ap (λ z. slice_get (interleaved 64 z ++ tail) (j * length (before ++ k ∷ after) + length before)) parts
     ∙ (ap (slice_get (interleaved 64 (xs ++ c ∷ ys) ++ tail)) at ∙ place_interleaved 64 xs c ys tail j l (length_of_code (argument k (arguments t))))

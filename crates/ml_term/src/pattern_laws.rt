@@ -21,14 +21,14 @@ pub fn ground_terms_stay()
 /// What unifying a pattern with a ground term gives.
 /// `exactly`: a map, exactly where the ground term is an instance of the pattern.
 /// `instance`: the map makes the pattern that term. `only`: each variable of the pattern has the one value with which that is so.
-/// `stands`: this value stands in the ground term, and `ground`: it is ground. `others`: the other variables stay.
+/// `stands`: this value stands in the ground term, and `closed`: it is ground too. `others`: the other variables stay.
 pub fn matching_a_ground_term()
     ensures exactly { (t u : Tree) → IsTrue (is_ground u) → IsSome (unifier t u) ↔ ((s : ℕ → Tree) × (substituted s t ≡ u)) }
     ensures instance { (t u : Tree) (m : Map) → IsTrue (is_ground u) → unifier t u ≡ Some m → applied m t ≡ u }
     ensures only { (t u : Tree) (m : Map) (s : ℕ → Tree) (n : ℕ) → IsTrue (is_ground u) → unifier t u ≡ Some m →
         substituted s t ≡ u → IsTrue (occurs n t) → s n ≡ value_of m n }
     ensures stands { (t u : Tree) (m : Map) (n : ℕ) → IsTrue (is_ground u) → unifier t u ≡ Some m → IsTrue (occurs n t) → StandsIn (value_of m n) u }
-    ensures ground { (t u : Tree) (m : Map) (n : ℕ) → IsTrue (is_ground u) → unifier t u ≡ Some m → IsTrue (occurs n t) → IsTrue (is_ground (value_of m n)) }
+    ensures closed { (t u : Tree) (m : Map) (n : ℕ) → IsTrue (is_ground u) → unifier t u ≡ Some m → IsTrue (occurs n t) → IsTrue (is_ground (value_of m n)) }
     ensures others { (t u : Tree) (m : Map) (n : ℕ) → IsTrue (is_ground u) → unifier t u ≡ Some m → (IsTrue (occurs n t) → ⊥) → value_of m n ≡ variable n }
 {}
 
@@ -87,7 +87,7 @@ pub fn keys_have_codes()
     ensures head { (keys : List ℕ) (t : Tree) → length (key_head keys t) ≡ 64 * length keys }
     ensures places { (before after : List ℕ) (k : ℕ) (t : Tree) (tail : List Bool) (j : ℕ) → j < 64 →
         slice_get (key_head (before ++ k ∷ after) t ++ tail) (j * length (before ++ k ∷ after) + length before)
-            ≡ slice_get (code (argument k (arguments t))) j }
+        ≡ slice_get (code (argument k (arguments t))) j }
     ensures found { (before after : List ℕ) (k : ℕ) (t : Tree) (tail : List Bool) →
         attribute (length (before ++ k ∷ after)) (length before) (key_head (before ++ k ∷ after) t ++ tail) ≡ code (argument k (arguments t)) }
 {}

@@ -1,3 +1,18 @@
+pub mod Runs
+pub mod Distinct
+pub mod UnificationEnds
+pub mod EqualSides
+pub mod Substitution
+pub mod StepsSay
+pub mod MapsFollow
+pub mod MostGeneral
+pub mod Solved
+pub mod OneUnifier
+pub mod Renaming
+pub mod Columns
+pub mod Fitting
+pub mod Ground
+pub mod Completing
 pub mod Sizes
 pub mod Views
 pub mod Orderings
@@ -13,3 +28,6 @@ pub mod Arguments
 pub mod KeysTellTuples
 pub mod Decimals
 pub mod DefaultKeys
+pub mod Numbering
+pub mod KeysApart
+pub mod Places

@@ -14,3 +14,7 @@ pub mod Patterns
 pub mod Valid
 pub mod Seen
 pub mod Rows
+pub mod Unifiers
+pub mod Falling
+pub mod Instances
+pub mod UnifierRows

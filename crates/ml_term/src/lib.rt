@@ -16,11 +16,13 @@ mod name;
 pub mod name_laws;
 mod nodes;
 mod order;
+pub mod pattern_laws;
 mod term;
 #[cfg(test)]
 mod tests;
 mod valid;
 pub mod worked_rows;
+pub mod unification_laws;
 
 pub use args::ArgsOf;
 pub use canonical::canonical_cmp;

@@ -1,0 +1,17 @@
+pub mod Limits
+pub mod Names
+pub mod Program
+pub mod TypeTests
+pub mod ListTerms
+pub mod Errors
+pub mod Bodies
+pub mod Evaluate
+pub mod Db
+pub mod Changes
+pub mod Builtins
+pub mod Table
+pub mod Known
+pub mod Search
+pub mod Session
+pub mod History
+pub mod Printed

@@ -15,3 +15,9 @@ pub mod Search
 pub mod Session
 pub mod History
 pub mod Printed
+pub mod Operations
+pub mod Told
+pub mod Replay
+pub mod Valid
+pub mod RowWords
+pub mod RowsFirst

@@ -1,0 +1,15 @@
+pub mod Runs
+pub mod Distinct
+pub mod UnificationEnds
+pub mod EqualSides
+pub mod Substitution
+pub mod StepsSay
+pub mod MapsFollow
+pub mod MostGeneral
+pub mod Solved
+pub mod OneUnifier
+pub mod Renaming
+pub mod Columns
+pub mod Fitting
+pub mod Ground
+pub mod Completing

@@ -12,3 +12,6 @@ pub mod Keys
 pub mod Patterns
 pub mod Seen
 pub mod Rows
+pub mod Unifiers
+pub mod Falling
+pub mod Instances

@@ -7,7 +7,9 @@
 mod args;
 mod declaration;
 mod name;
+pub mod pattern_laws;
 mod term;
+pub mod unification_laws;
 
 pub use args::ArgsOf;
 pub use declaration::{Decl, Keys, Kind, Pred};

@@ -1,1 +1,1 @@
-pub mod RowsTry
+pub mod Computed

@@ -5,6 +5,7 @@
 
 mod change;
 mod ending;
+pub mod rows;
 
 pub use change::What;
 pub use ending::{Ending, EntryEnding};

@@ -1,3 +1,4 @@
+-- The worked rows, each computed.
 use Rattle.std.proofs.Common.{refl}
 use Rattle.ml_term.specs.Runs.{run}
 use Rattle.ml_term.specs.Unify.{solved}
@@ -10,9 +11,9 @@ use Rattle.ml_search.specs.RowsEndings.{EndingRows}
 use Rattle.ml_search.specs.RowsStored.{StoredRows}
 use Rattle.ml_search.specs.RowsTerms.{TermRows}
 
-pub arithmetic : ArithmeticRows
+pub arithmetic_rows : ArithmeticRows
 unfolding run solved searched
-arithmetic = record {
+arithmetic_rows = record {
   sum = refl;
   difference = refl;
   product = refl;
@@ -51,9 +52,9 @@ arithmetic = record {
   a_value_is_unified_with_the_left_side = refl;
 }
 
-pub control : ControlRows
+pub control_rows : ControlRows
 unfolding run solved searched
-control = record {
+control_rows = record {
   clauses_are_tried_in_their_order = refl;
   a_cut_leaves_the_first_answer = refl;
   a_cut_is_local_to_its_clause = refl;
@@ -86,9 +87,9 @@ control = record {
   two_variables_print_alike = refl;
 }
 
-pub relations : RelationRows
+pub relation_rows : RelationRows
 unfolding run solved searched
-relations = record {
+relation_rows = record {
   tuples_come_in_key_order = refl;
   bits_of_the_keys_alternate = refl;
   the_first_argument_as_the_only_key = refl;
@@ -105,9 +106,9 @@ relations = record {
   a_session_that_commits_is_seen_by_the_next = refl;
 }
 
-pub catches : CatchRows
+pub catch_rows : CatchRows
 unfolding run solved searched
-catches = record {
+catch_rows = record {
   an_error_is_caught_with_its_term = refl;
   a_change_stays_where_a_ball_is_caught = refl;
   a_ball_that_no_catcher_takes = refl;
@@ -134,9 +135,9 @@ catches = record {
   findall_wants_a_list = refl;
 }
 
-pub endings : EndingRows
+pub ending_rows : EndingRows
 unfolding run solved searched
-endings = record {
+ending_rows = record {
   a_script_that_says_nothing_commits = refl;
   a_script_may_abort = refl;
   an_answer_refuses_the_commit = refl;
@@ -152,9 +153,9 @@ endings = record {
   a_firm = refl;
 }
 
-pub stored : StoredRows
+pub stored_rows : StoredRows
 unfolding run solved searched
-stored = record {
+stored_rows = record {
   a_variable_in_a_stored_clause_fits_every_pattern = refl;
   clauses_are_put_first_and_last = refl;
   a_call_does_not_see_what_it_asserts = refl;
@@ -180,9 +181,9 @@ stored = record {
   a_body_is_callable = refl;
 }
 
-pub terms : TermRows
+pub term_rows : TermRows
 unfolding run solved searched
-terms = record {
+term_rows = record {
   a_variable_is_one = refl;
   an_atom_is_no_variable = refl;
   an_atom_is_an_atom = refl;

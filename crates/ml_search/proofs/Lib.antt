@@ -1,1 +1,5 @@
 pub mod Computed
+pub mod Powers
+pub mod Sizes
+pub mod Falls
+pub mod Turns

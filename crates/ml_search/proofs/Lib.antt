@@ -3,3 +3,6 @@ pub mod Powers
 pub mod Sizes
 pub mod Falls
 pub mod Turns
+pub mod MoreInferences
+pub mod Beginnings
+pub mod Outlines

@@ -1,9 +1,9 @@
 -- Sizes of bodies, goals and branches: no map changes them.
-use Rattle.std.specs.Prelude.{◌≡◌, ℕ, zero, suc, ◌+◌, ◌^◌, ◌≤◌, List, [], ◌∷◌, ◌++◌, drop, map, length}
-use Rattle.std.proofs.Common.{refl, ap, arith}
-use Rattle.ml_term.specs.Tree.{Tree, atom}
+use Rattle.std.specs.Prelude.{◌≡◌, ℕ, zero, suc, ◌+◌, ◌≤◌, List, [], ◌∷◌, ◌++◌, drop}
+use Rattle.std.proofs.Common.{refl, arith}
+use Rattle.ml_term.specs.Tree.{Tree}
 use Rattle.ml_term.specs.Unify.{Map, applied}
-use Rattle.ml_search.specs.Bodies.{Body, truth, failure, cutting, both, either, only_if, choose, calling, calling_once, unless, finding, catching, throwing, other, in_body, body_size}
+use Rattle.ml_search.specs.Bodies.{Body, both, either, only_if, choose, in_body, body_size}
 use Rattle.ml_search.specs.Table.{Goals, done, body, cut, spend, same, take, caught, Branch, mapped}
 use Rattle.ml_search.specs.Search.{goals_size, branches_size}
 

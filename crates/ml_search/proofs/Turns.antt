@@ -1,6 +1,6 @@
 -- The search goes by its turns.
-use Rattle.std.specs.Prelude.{◌≡◌, ℕ, ◌⊎◌}
-use Rattle.std.proofs.Common.{inl, inr, refl, ◌∙◌, sym, ap}
+use Rattle.std.specs.Prelude.{◌≡◌}
+use Rattle.std.proofs.Common.{inl, inr, refl, ◌∙◌, ap}
 use Rattle.ml_term.specs.Runs.{Next, now, ask, run}
 use Rattle.ml_term.specs.Runs as RS
 use Rattle.ml_term.specs.Falling.{HoldsNext, HoldsAfter}

@@ -1,12 +1,11 @@
 -- Short words for worked rows: terms, declarations, scripts, and what is printed.
-use Rattle.std.specs.Prelude.{◌≡◌, ℕ, ◌+◌, ◌-◌, Bool, false, List, [], ◌∷◌, length, map, codes, pos, negsuc, IsTrue}
+use Rattle.std.specs.Prelude.{◌≡◌, ℕ, ◌+◌, ◌-◌, false, List, [], ◌∷◌, length, map, codes, pos, negsuc, IsTrue}
 use Rattle.std.specs.List.{flat_map}
 use Rattle.ml_term.specs.Tree.{Tree, variable, integer, atom, compound_1, compound_2, compound_3}
 use Rattle.ml_term.specs.Keys.{are_keys, numbers_from}
 use Rattle.ml_term.specs.declared.declaration.Decl.{Decl}
 use Rattle.ml_term.specs.declared.declaration.Kind.TheVariants.{Relation, Clauses}
 use Rattle.ml_search.specs.Program.{Clause, Program, Goal, commit, Script, true_body}
-use Rattle.ml_search.specs.ListTerms.{list_term}
 use Rattle.ml_search.specs.Loading.{first_db}
 use Rattle.ml_search.specs.Session.{line}
 use Rattle.ml_search.specs.History.{history}

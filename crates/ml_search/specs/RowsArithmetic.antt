@@ -1,7 +1,7 @@
 -- Worked rows of arithmetic.
-use Rattle.std.specs.Prelude.{◌≡◌, ℕ, ◌++◌, List, [], ◌∷◌, codes}
+use Rattle.std.specs.Prelude.{ℕ, ◌++◌, List, [], ◌∷◌, codes}
 use Rattle.ml_term.specs.Tree.{Tree}
-use Rattle.ml_search.specs.RowWords.{a, a1, a2, i, minus, v0, v1, Rules, plain, Answers, Fails}
+use Rattle.ml_search.specs.RowWords.{a, a1, a2, i, minus, v0, v1, plain, Answers, Fails}
 
 -- `X is E` prints `X = TEXT`
 abbrev pub Value : Tree → List ℕ → Type 0

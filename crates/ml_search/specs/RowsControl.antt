@@ -1,9 +1,7 @@
 -- Worked rows of control: conjunctions, choices, cuts, conditions, negation, calls, `findall/3`, and unification.
-use Rattle.std.specs.Prelude.{◌≡◌, ℕ, ◌++◌, List, [], ◌∷◌, codes}
+use Rattle.std.specs.Prelude.{ℕ, List, [], ◌∷◌, codes}
 use Rattle.ml_term.specs.Tree.{Tree}
-use Rattle.ml_search.specs.Program.{Program, Clause}
-use Rattle.ml_search.specs.ListTerms.{list_term}
-use Rattle.ml_search.specs.RowWords.{a, a1, a2, a3, i, minus, v0, v1, v2, v3, and, or, then, equals, always, fact, rule, Rules, plain, Answers, Fails}
+use Rattle.ml_search.specs.RowWords.{a, a1, a2, a3, i, v0, v1, and, or, then, equals, always, fact, rule, Rules, plain, Answers}
 
 abbrev cut : Tree
 cut = a (codes "!")

@@ -1,10 +1,10 @@
 -- Worked rows of relations: the order of keys, codes that are equal, changes, budgets, and a realistic run.
-use Rattle.std.specs.Prelude.{◌≡◌, ℕ, ◌++◌, List, [], ◌∷◌, codes}
+use Rattle.std.specs.Prelude.{ℕ, List, [], ◌∷◌, codes}
 use Rattle.std.proofs.Common.{refl}
 use Rattle.ml_term.specs.Tree.{Tree}
 use Rattle.ml_term.specs.declared.declaration.Decl.{Decl}
-use Rattle.ml_search.specs.Program.{Program, Clause, Script, Goal, Last, commit, abort, unless}
-use Rattle.ml_search.specs.RowWords.{a, a1, a2, a3, i, minus, v0, v1, v2, v3, and, or, equals, always, fact, rule, stored, relation, clauses, goal, script, Rules, Print, Answers, Fails}
+use Rattle.ml_search.specs.Program.{Script, Goal, commit}
+use Rattle.ml_search.specs.RowWords.{a, a1, a2, i, v0, v1, and, rule, relation, goal, script, Rules, Print, Answers}
 
 -- :- relation(p/1). p(2). p(1).
 abbrev numbers : Rules
@@ -18,8 +18,8 @@ pairs d = record { program = record { decls = d ∷ []; clauses = [] }; items = 
 abbrev departments : Rules
 departments =
     record {
-        program = record { decls = relation (codes "d") 2 (1 ∷ 2 ∷ []) refl ∷ []; clauses = [] };
-        items = (0, a2 (codes "d") (a (codes "department_b")) (i 2)) ∷ (0, a2 (codes "d") (a (codes "department_a")) (i 1)) ∷ (0, a2 (codes "d") (a (codes "department_b")) (i 2)) ∷ [];
+      program = record { decls = relation (codes "d") 2 (1 ∷ 2 ∷ []) refl ∷ []; clauses = [] };
+      items = (0, a2 (codes "d") (a (codes "department_b")) (i 2)) ∷ (0, a2 (codes "d") (a (codes "department_a")) (i 1)) ∷ (0, a2 (codes "d") (a (codes "department_b")) (i 2)) ∷ [];
     }
 
 -- :- relation(p/1). loop :- loop.
@@ -59,24 +59,24 @@ pub record RelationRows : Type 0 where
   pub equal_codes_do_not_mix_tuples : Answers departments (a2 (codes "d") (a (codes "department_b")) v0) (codes "N" ∷ []) (codes "  N = 2" ∷ codes "  1 answers" ∷ [])
   pub a_fact_that_is_given_twice_is_there_once : Answers departments (a2 (codes "d") v0 v1) (codes "_D" ∷ codes "N" ∷ []) (codes "  N = 1" ∷ codes "  N = 2" ∷ codes "  2 answers" ∷ [])
   pub a_call_does_not_see_what_it_inserts
-    : Print numbers
-        (script (goal (and (p v0) (and (a2 (codes "is") v1 (a2 (codes "+") v0 (i 10))) (insert (p v1)))) x_and_y ∷ goal (p v0) x ∷ []) ∷ [])
-        (codes "session 1 committed"
-        ∷ codes "goal 1" ∷ codes "  X = 1, Y = 11" ∷ codes "  X = 2, Y = 12" ∷ codes "  2 answers"
-        ∷ codes "goal 2" ∷ codes "  X = 1" ∷ codes "  X = 2" ∷ codes "  X = 11" ∷ codes "  X = 12" ∷ codes "  4 answers" ∷ [])
+      : Print numbers
+      (script (goal (and (p v0) (and (a2 (codes "is") v1 (a2 (codes "+") v0 (i 10))) (insert (p v1)))) x_and_y ∷ goal (p v0) x ∷ []) ∷ [])
+      (codes "session 1 committed"
+      ∷ codes "goal 1" ∷ codes "  X = 1, Y = 11" ∷ codes "  X = 2, Y = 12" ∷ codes "  2 answers"
+      ∷ codes "goal 2" ∷ codes "  X = 1" ∷ codes "  X = 2" ∷ codes "  X = 11" ∷ codes "  X = 12" ∷ codes "  4 answers" ∷ [])
   pub a_tuple_that_is_there_is_inserted_once_more : Answers numbers (and (insert (p (i 1))) (p v0)) x (codes "  X = 1" ∷ codes "  X = 2" ∷ codes "  2 answers" ∷ [])
   pub a_deleted_tuple_is_gone : Answers numbers (and (delete (p (i 1))) (p v0)) x (codes "  X = 2" ∷ codes "  1 answers" ∷ [])
   pub a_tuple_that_is_not_there_cannot_be_deleted : Answers numbers (delete (p (i 3))) [] (codes "  0 answers" ∷ [])
   pub a_budget_that_is_enough : Print numbers (within 3 (goal (p v0) x) ∷ []) (codes "session 1 committed" ∷ codes "goal 1" ∷ codes "  X = 1" ∷ codes "  X = 2" ∷ codes "  2 answers" ∷ [])
   pub a_budget_that_is_not
-    : Print numbers (within 2 (goal (p v0) x) ∷ []) (codes "session 1 failed at goal 1" ∷ codes "goal 1" ∷ codes "  X = 1" ∷ codes "  error resource_error(inferences)" ∷ [])
+      : Print numbers (within 2 (goal (p v0) x) ∷ []) (codes "session 1 failed at goal 1" ∷ codes "goal 1" ∷ codes "  X = 1" ∷ codes "  error resource_error(inferences)" ∷ [])
   pub a_session_that_fails_changes_nothing
-    : Print looping
-        (within 100 (goal (and (insert (p (i 1))) (a (codes "loop"))) []) ∷ script (goal (p v0) x ∷ []) ∷ [])
-        (codes "session 1 failed at goal 1" ∷ codes "goal 1" ∷ codes "  error resource_error(inferences)"
-        ∷ codes "session 2 committed" ∷ codes "goal 1" ∷ codes "  0 answers" ∷ [])
+      : Print looping
+      (within 100 (goal (and (insert (p (i 1))) (a (codes "loop"))) []) ∷ script (goal (p v0) x ∷ []) ∷ [])
+      (codes "session 1 failed at goal 1" ∷ codes "goal 1" ∷ codes "  error resource_error(inferences)"
+      ∷ codes "session 2 committed" ∷ codes "goal 1" ∷ codes "  0 answers" ∷ [])
   pub a_session_that_commits_is_seen_by_the_next
-    : Print numbers
-        (script (goal (and (delete (p (i 1))) (insert (p (i 5)))) [] ∷ []) ∷ script (goal (p v0) x ∷ []) ∷ [])
-        (codes "session 1 committed" ∷ codes "goal 1" ∷ codes "  true" ∷ codes "  1 answers"
-        ∷ codes "session 2 committed" ∷ codes "goal 1" ∷ codes "  X = 2" ∷ codes "  X = 5" ∷ codes "  2 answers" ∷ [])
+      : Print numbers
+      (script (goal (and (delete (p (i 1))) (insert (p (i 5)))) [] ∷ []) ∷ script (goal (p v0) x ∷ []) ∷ [])
+      (codes "session 1 committed" ∷ codes "goal 1" ∷ codes "  true" ∷ codes "  1 answers"
+      ∷ codes "session 2 committed" ∷ codes "goal 1" ∷ codes "  X = 2" ∷ codes "  X = 5" ∷ codes "  2 answers" ∷ [])

@@ -1,11 +1,9 @@
 -- Worked rows of terms: tests, order, `functor/3`, `arg/3`, `=../2`, `copy_term/2`, and terms that are shared and large.
-use Rattle.std.specs.Prelude.{◌≡◌, ℕ, ◌++◌, List, [], ◌∷◌, length, codes}
+use Rattle.std.specs.Prelude.{◌≡◌, ℕ, ◌++◌, List, [], ◌∷◌, codes}
 use Rattle.ml_term.specs.Tree.{Tree, nodes}
-use Rattle.ml_search.specs.Program.{Program, Clause, Script, Goal, Last, commit, abort, unless}
 use Rattle.ml_search.specs.ListTerms.{list_term}
-use Rattle.ml_search.specs.Loading.{first_db}
 use Rattle.ml_search.specs.Session.{asked}
-use Rattle.ml_search.specs.RowWords.{a, a1, a2, a3, i, minus, v0, v1, v2, v3, and, or, equals, always, fact, rule, goal, script, Rules, plain, Print, Answers, Fails}
+use Rattle.ml_search.specs.RowWords.{a, a1, a2, a3, i, minus, v0, v1, v2, and, equals, fact, rule, goal, Rules, plain, Answers, Fails}
 
 -- d(0,a). d(N,f(T,T)) :- N > 0, M is N - 1, d(M,T).
 abbrev doubling : Rules

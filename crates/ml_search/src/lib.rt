@@ -5,6 +5,7 @@
 
 mod change;
 mod ending;
+pub mod laws;
 pub mod rows;
 
 pub use change::What;

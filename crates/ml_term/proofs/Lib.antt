@@ -13,3 +13,7 @@ pub mod Columns
 pub mod Fitting
 pub mod Ground
 pub mod Completing
+pub mod Sizes
+pub mod Views
+pub mod Orderings
+pub mod DefaultKeys

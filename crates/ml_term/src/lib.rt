@@ -2,16 +2,20 @@
 //! It stands on nothing. The layers above use the tree that a term is seen as, and the definitions of `specs/`, which speak of trees alone.
 //! Names, arguments and declarations keep in their types what makes a term valid, save that integers are in range, which is a condition of
 //! each public call that takes a term.
-#![tactic(auto)]
+#![tactic(auto, using(crate::proofs::Sizes::nodes_above_zero, crate::proofs::Sizes::arity_of_trees))]
 
 mod args;
 mod declaration;
 mod name;
+mod nodes;
+mod order;
 pub mod pattern_laws;
 mod term;
 pub mod unification_laws;
 
 pub use args::ArgsOf;
-pub use declaration::{Decl, Keys, Kind, Pred};
+pub use declaration::{Decl, Keys, Kind, MOST_KEYS, Pred};
 pub use name::Name;
-pub use term::{Args, Term};
+pub use nodes::{is_ground, nodes_up_to};
+pub use order::compare;
+pub use term::{Args, Term, copy_terms};

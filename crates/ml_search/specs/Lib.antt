@@ -19,6 +19,7 @@ pub mod Operations
 pub mod Told
 pub mod Replay
 pub mod Valid
+pub mod Seen
 pub mod Words
 pub mod Loading
 pub mod RowWords

@@ -9,6 +9,8 @@ pub mod laws;
 mod log;
 mod operation;
 pub mod rows;
+#[cfg(test)]
+mod tests;
 
 pub use change::{Change, What};
 pub use ending::{Ending, EntryEnding};

@@ -1,6 +1,5 @@
 -- The key of an item that meets a pattern fits it, and so does what begins the key.
-use Rattle.std.specs.Prelude.{◌≡◌, ℕ, zero, suc, ◌+◌, ◌-◌, ◌*◌, ◌<◌, ◌≤◌, nat_le, Bool, true, false, ◌&&◌, ◌||◌, List, [], ◌∷◌, ◌++◌, map, length, take, drop, replicate, cond, min, Option, Some, None, IsTrue, ℤ}
-use Rattle.std.specs.List.{flat_map}
+use Rattle.std.specs.Prelude.{◌≡◌, ℕ, zero, suc, ◌+◌, ◌-◌, ◌*◌, nat_le, Bool, true, false, ◌&&◌, ◌||◌, List, [], ◌∷◌, ◌++◌, map, length, drop, replicate, cond, min, Option, Some, None}
 use Rattle.std.proofs.Common.{refl, sym, ap, ◌∙◌, subst, arith, append_assoc, length-append}
 use Rattle.std.proofs.lemmas.List.{map-append, length-map, length-take-le, length-replicate}
 use Rattle.ml_term.specs.Tree.{Tree, Trees, variable, integer, atom, compound, no_trees, tree, arity, substituted, substituted_in}
@@ -10,7 +9,7 @@ use Rattle.ml_term.specs.Keys.{argument, arguments, keyed_arguments, first_bit, 
 use Rattle.ml_term.specs.Patterns.{asked_code, pattern_of, same_bits, begins, attribute, fits_at, fits_from, fits, may_hold_at, may_hold_from, may_hold}
 use Rattle.ml_term.specs.Instances.{HaveACommonInstance, is_head}
 use Rattle.ml_term.proofs.Substitution.{arity_kept}
-use Rattle.ml_term.proofs.Columns.{first_bits, all_first_bits, column_interleaved, same_bits_itself, same_bits_equal, column_begins, and_first, and_second}
+use Rattle.ml_term.proofs.Columns.{all_first_bits, column_interleaved, same_bits_itself, same_bits_equal, column_begins, and_first, and_second}
 
 -- codes have 64 bits
 pub length_of_bits : (k v : ℕ) → length (bits k v) ≡ k
@@ -31,11 +30,11 @@ length_of_code (atom f) = omega (arith, length-append (byte_bits (padded 7 f)) (
 length_of_code (compound f ts) = omega (arith, length-append (bits 8 (arity ts) ++ byte_bits (padded 6 f)) (length_bits f), length-append (bits 8 (arity ts)) (byte_bits (padded 6 f)), length_of_bits 8 (arity ts), length_of_byte_bits (padded 6 f), length_of_padded 6 f, length_of_bits 6 (min (length f) 63))
 
 -- one keyed place
-or_second : (b c : Bool) → c ≡ true → (b || c) ≡ true
+pub or_second : (b c : Bool) → c ≡ true → (b || c) ≡ true
 or_second true c h = refl
 or_second false c h = h
 
-or_first : (b c : Bool) → b ≡ true → (b || c) ≡ true
+pub or_first : (b c : Bool) → b ≡ true → (b || c) ≡ true
 or_first true c h = refl
 or_first false c h = absurd (cc h)
 
@@ -95,7 +94,7 @@ pub attribute_at : (xs : List (List Bool)) (t : Tree) (ys : List (List Bool)) (t
     → attribute a i (interleaved 64 (xs ++ code t ∷ ys) ++ tail) ≡ code t
 attribute_at xs t ys tail a i h k = column_interleaved 64 xs (code t) ys tail a i h k ∙ all_first_bits 64 (code t) (length_of_code t)
 
-and_both : (b c : Bool) → b ≡ true → c ≡ true → (b && c) ≡ true
+pub and_both : (b c : Bool) → b ≡ true → c ≡ true → (b && c) ≡ true
 and_both true c h k = k
 and_both false c h k = absurd (cc h)
 

@@ -1,4 +1,4 @@
-use Rattle.std.proofs.Common.{true, refl}
+use Rattle.std.proofs.Common.{refl}
 use Rattle.ml_term.specs.Tree.{has, variables}
 use Rattle.ml_term.proofs.MostGeneral.{not_in_false}
 use Rattle.ml_term.proofs.Ground.{matched_exactly, gives_the_tuple, gives_one, gives_ground, leaves_others, value_stands}

@@ -5,6 +5,7 @@ use Rattle.std.specs.declared.cmp.Ordering.{Ordering}
 use Rattle.std.specs.declared.cmp.Ordering.TheVariants.{Less, Equal, Greater}
 use Rattle.std.specs.Ordering.{nat_cmp, ordering_then}
 use Rattle.ml_term.specs.Tree.{Tree, compound, no_trees, tree, is_ground, is_numbered}
+use Rattle.ml_term.specs.Valid.{is_valid}
 use Rattle.ml_term.specs.Order.{tree_cmp}
 use Rattle.ml_term.specs.CanonicalBytes.{bytes_of}
 use Rattle.ml_term.specs.Keys.{tuple_cmp, numbers_from}
@@ -103,14 +104,14 @@ loaded_from n (t ∷ ts) = record { id = record { place = at 0; change = n }; te
 abbrev pub loaded : List (List Tree) → Db
 loaded = map (loaded_from 0)
 
--- a ground term of the relation
+-- a ground term of the relation, not too long
 abbrev pub is_tuple : Decl → Tree → Bool
-is_tuple d t = is_of d.pred.name d.pred.arity t && is_ground t && nat_le (length (bytes_of t)) most_bytes
+is_tuple d t = is_valid t && is_of d.pred.name d.pred.arity t && is_ground t && nat_le (length (bytes_of t)) most_bytes
 
--- `:-(Head, Body)` with a head of the predicate and a callable body, its variables numbered from 0 by first place
+-- `:-(Head, Body)` with a head of the predicate and a callable body, its variables numbered from 0 by first place, not too long
 abbrev pub is_stored_clause : Decl → Tree → Bool
 is_stored_clause d t =
-    is_of (codes ":-") 2 t && is_of d.pred.name d.pred.arity (head_of t) && is_callable (body_of t) && is_numbered t && nat_le (length (bytes_of t)) most_bytes
+    is_valid t && is_of (codes ":-") 2 t && is_of d.pred.name d.pred.arity (head_of t) && is_callable (body_of t) && is_numbered t && nat_le (length (bytes_of t)) most_bytes
 
 -- whether a declaration's list may hold a term
 abbrev pub is_allowed : Decl → Tree → Bool

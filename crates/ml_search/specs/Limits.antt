@@ -1,4 +1,4 @@
--- The limits of terms, changes and answers.
+-- The limits of terms, changes and answers. The code's constants are these numbers.
 use Rattle.std.specs.Prelude.{ℕ}
 
 -- nodes of a term that is printed, called, raised or passed to the store
@@ -24,7 +24,3 @@ most_inferences = 200000
 -- the arity of a compound at the most
 abbrev pub most_arguments : ℕ
 most_arguments = 255
-
--- integers run from minus this number to this number less one
-abbrev pub integer_end : ℕ
-integer_end = 2305843009213693952

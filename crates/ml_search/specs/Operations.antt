@@ -3,6 +3,7 @@
 use Rattle.std.specs.Prelude.{ℕ, ◌-◌, ◌==◌, nat_lt, nat_le, Bool, true, false, ◌&&◌, List, [], ◌∷◌, ◌++◌, length, Option, Some, None, cond, is_some}
 use Rattle.std.specs.List.{filter_map}
 use Rattle.ml_term.specs.Tree.{Tree, nodes}
+use Rattle.ml_term.specs.Valid.{is_valid}
 use Rattle.ml_term.specs.declared.declaration.Decl.{Decl}
 use Rattle.ml_term.specs.declared.declaration.Kind.{Kind}
 use Rattle.ml_term.specs.declared.declaration.Kind.TheVariants.{Relation, Clauses}
@@ -106,39 +107,39 @@ module _ (decls : List Decl) where
 
   -- Whether an operation may be asked after a log: a pattern belongs to its declaration and isn't too large; a tuple or clause is one that its list may
   -- have; the next item of an open cursor is asked for; and an item is taken out that a cursor over clauses gave.
-  abbrev pub is_valid : Log → Operation → Bool
-  is_valid l (opens d p) = holds_of (λ q. is_of q.pred.name q.pred.arity p) (declaration decls d) && nat_le (nodes p) most_nodes
-  is_valid l (next c i) = nat_lt c (length (opened l)) && (i == length (given l c))
-  is_valid l (insert t) = holds_of (λ q. is_relation q && is_tuple q t) (declared_for t)
-  is_valid l (delete t) = holds_of (λ q. is_relation q && is_tuple q t) (declared_for t)
-  is_valid l (assertz t) = holds_of (λ q. is_clause_list q && is_stored_clause q t) (declared_for (head_of t))
-  is_valid l (asserta t) = holds_of (λ q. is_clause_list q && is_stored_clause q t) (declared_for (head_of t))
-  is_valid l (delete_at c i) = holds_of is_clause_list (declared_of l c) && is_some (item_given l c i)
+  abbrev pub is_valid_after : Log → Operation → Bool
+  is_valid_after l (opens d p) = holds_of (λ q. is_valid p && is_of q.pred.name q.pred.arity p) (declaration decls d) && nat_le (nodes p) most_nodes
+  is_valid_after l (next c i) = nat_lt c (length (opened l)) && (i == length (given l c))
+  is_valid_after l (insert t) = holds_of (λ q. is_relation q && is_tuple q t) (declared_for t)
+  is_valid_after l (delete t) = holds_of (λ q. is_relation q && is_tuple q t) (declared_for t)
+  is_valid_after l (assertz t) = holds_of (λ q. is_clause_list q && is_stored_clause q t) (declared_for (head_of t))
+  is_valid_after l (asserta t) = holds_of (λ q. is_clause_list q && is_stored_clause q t) (declared_for (head_of t))
+  is_valid_after l (delete_at c i) = holds_of is_clause_list (declared_of l c) && is_some (item_given l c i)
 
   -- whether a reply is of the kind that an operation has after a log
-  abbrev pub is_reply : Log → Operation → Reply → Bool
-  is_reply l (opens d p) (cursor c) = c == length (opened l)
-  is_reply l (next c i) no_item = true
-  is_reply l (next c i) (item t) = holds_of (λ q. is_allowed q t) (declared_of l c)
-  is_reply l (insert t) added = true
-  is_reply l (insert t) present = true
-  is_reply l (insert t) full = true
-  is_reply l (delete t) removed = true
-  is_reply l (delete t) absent = true
-  is_reply l (delete t) full = true
-  is_reply l (assertz t) added = true
-  is_reply l (assertz t) full = true
-  is_reply l (asserta t) added = true
-  is_reply l (asserta t) full = true
-  is_reply l (delete_at c i) removed = true
-  is_reply l (delete_at c i) absent = true
-  is_reply l (delete_at c i) full = true
-  is_reply l o r = false
+  abbrev pub is_reply_after : Log → Operation → Reply → Bool
+  is_reply_after l (opens d p) (cursor c) = c == length (opened l)
+  is_reply_after l (next c i) no_item = true
+  is_reply_after l (next c i) (item t) = holds_of (λ q. is_allowed q t) (declared_of l c)
+  is_reply_after l (insert t) added = true
+  is_reply_after l (insert t) present = true
+  is_reply_after l (insert t) full = true
+  is_reply_after l (delete t) removed = true
+  is_reply_after l (delete t) absent = true
+  is_reply_after l (delete t) full = true
+  is_reply_after l (assertz t) added = true
+  is_reply_after l (assertz t) full = true
+  is_reply_after l (asserta t) added = true
+  is_reply_after l (asserta t) full = true
+  is_reply_after l (delete_at c i) removed = true
+  is_reply_after l (delete_at c i) absent = true
+  is_reply_after l (delete_at c i) full = true
+  is_reply_after l o r = false
 
-  -- whether each operation of a log is valid after those before it
-  abbrev pub are_valid_from : Log → Log → Bool
-  are_valid_from before [] = true
-  are_valid_from before (e ∷ l) = is_valid before e.0 && is_reply before e.0 e.1 && are_valid_from (before ++ e ∷ []) l
+  -- whether each operation of a log may be asked after those before it, and has a reply of its kind
+  abbrev pub is_log_from : Log → Log → Bool
+  is_log_from before [] = true
+  is_log_from before (e ∷ l) = is_valid_after before e.0 && is_reply_after before e.0 e.1 && is_log_from (before ++ e ∷ []) l
 
-  abbrev pub are_valid : Log → Bool
-  are_valid l = are_valid_from [] l
+  abbrev pub is_log : Log → Bool
+  is_log l = is_log_from [] l

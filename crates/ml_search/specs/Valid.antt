@@ -2,6 +2,7 @@
 use Rattle.std.specs.Prelude.{nat_lt, nat_le, Bool, true, ◌&&◌, ◌||◌, not, List, [], ◌∷◌, length, is_none}
 use Rattle.std.specs.List.{list_all}
 use Rattle.ml_term.specs.Tree.{Tree, variables, is_numbered, has}
+use Rattle.ml_term.specs.Valid.{is_valid}
 use Rattle.ml_term.specs.declared.declaration.Decl.{Decl}
 use Rattle.ml_search.specs.Limits.{most_inferences}
 use Rattle.ml_search.specs.Program.{Clause, Program, Goal, Last, commit, abort, unless, Script, name_of, arity_of, clause_term, place_of}
@@ -15,11 +16,11 @@ is_head t = (is_atom t || is_compound t) && not (is_reserved (name_of t) (arity_
 
 -- whether a clause has such a head and a callable body, and its variables are numbered from 0 by first place
 abbrev pub is_clause : Clause → Bool
-is_clause c = is_head c.head && is_callable c.body && is_numbered (clause_term c.head c.body)
+is_clause c = is_valid (clause_term c.head c.body) && is_head c.head && is_callable c.body && is_numbered (clause_term c.head c.body)
 
 -- whether a goal is callable, its variables are numbered from 0 by first place, and each number that has a name is one of its variables
 abbrev pub is_goal : Goal → Bool
-is_goal g = is_callable g.term && is_numbered g.term && list_all (λ e. has e.1 (variables g.term)) g.names
+is_goal g = is_valid g.term && is_callable g.term && is_numbered g.term && list_all (λ e. has e.1 (variables g.term)) g.names
 
 abbrev pub is_last : Last → Bool
 is_last commit = true

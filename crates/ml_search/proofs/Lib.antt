@@ -6,3 +6,4 @@ pub mod Turns
 pub mod MoreInferences
 pub mod Beginnings
 pub mod Outlines
+pub mod Progressing

@@ -1,5 +1,5 @@
 -- The lists of a store: for each declaration the list of its items. The code keeps nested pages, flags and undo lists.
-use Rattle.std.specs.Prelude.{ℕ, zero, suc, ◌+◌, nat_le, Bool, true, false, ◌&&◌, not, List, [], ◌∷◌, length, map, take, drop, Option, Some, None, cond, codes}
+use Rattle.std.specs.Prelude.{ℕ, zero, suc, ◌+◌, nat_le, Bool, true, false, ◌&&◌, not, List, [], ◌∷◌, length, map, take, drop, Option, Some, None, cond, codes, unwrap_or, slice_get}
 use Rattle.std.specs.List.{list_all, list_any}
 use Rattle.std.specs.declared.cmp.Ordering.{Ordering}
 use Rattle.std.specs.declared.cmp.Ordering.TheVariants.{Less, Equal, Greater}
@@ -66,9 +66,7 @@ is_same_id a b = is_equal (id_cmp a b)
 
 -- the list of a declaration
 abbrev pub items : Db → ℕ → List Item
-items [] d = []
-items (is ∷ db) zero = is
-items (is ∷ db) (suc d) = items db d
+items db d = unwrap_or (slice_get db d) []
 
 -- the lists with another one for a declaration
 abbrev pub with_items : Db → ℕ → List Item → Db
@@ -162,3 +160,11 @@ is_db [] [] = true
 is_db [] (is ∷ db) = false
 is_db (d ∷ ds) [] = false
 is_db (d ∷ ds) (is ∷ db) = is_list_of d is && is_db ds db
+
+-- whether no item is one that a session still has for itself
+abbrev pub is_committed : Db → Bool
+is_committed db = list_all (λ is. list_all (λ i. is_placed i.id.place) is) db
+  where
+    is_placed : Place → Bool
+    is_placed (at n) = true
+    is_placed mine = false

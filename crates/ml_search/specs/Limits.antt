@@ -24,3 +24,11 @@ most_inferences = 200000
 -- the arity of a compound at the most
 abbrev pub most_arguments : ℕ
 most_arguments = 255
+
+-- goals of a script
+abbrev pub most_goals : ℕ
+most_goals = 4294967294
+
+-- declarations of a program
+abbrev pub most_declarations : ℕ
+most_declarations = 4294967295

@@ -1,6 +1,6 @@
 -- The bytes of a history, and the order of sessions that bytes show. The code writes a session's block at a time.
 use Rattle.std.specs.Prelude.{ℕ, ◌+◌, ◌-◌, ◌*◌, ◌==◌, nat_le, Bool, true, false, ◌&&◌, ◌||◌, List, [], ◌∷◌, ◌++◌, length, take, drop, Option, Some, None, cond, codes}
-use Rattle.std.specs.List.{flat_map, filter_map, take_while}
+use Rattle.std.specs.List.{flat_map, filter_map, take_while, slice_split}
 use Rattle.std.specs.Str.{bytes_eq}
 use Rattle.ml_term.specs.Decimal.{decimal_text}
 use Rattle.ml_term.specs.Text.{is_digit}
@@ -30,10 +30,12 @@ block e = by e.ran
 abbrev pub printed : List Entry → List ℕ
 printed = flat_map block
 
--- the lines of some bytes, without their line feeds; `begun` are the bytes of a line that was begun, and bytes after the last line feed are no line
-abbrev pub lines_from : List ℕ → List ℕ → List (List ℕ)
-lines_from begun [] = []
-lines_from begun (b ∷ bs) = cond (b == 10) (begun ∷ lines_from [] bs) (lines_from (begun ++ b ∷ []) bs)
+-- the lines of some bytes, without their line feeds: bytes after the last line feed are no line
+abbrev pub lines_of : List ℕ → List (List ℕ)
+lines_of bs = but_last (slice_split (λ b. b == 10) bs)
+  where
+    but_last : List (List ℕ) → List (List ℕ)
+    but_last ls = take (length ls - 1) ls
 
 -- what stands behind a text that begins some bytes
 abbrev pub behind : List ℕ → List ℕ → Option (List ℕ)
@@ -80,4 +82,4 @@ shown_session l = numbered (behind (codes "session ") l)
 
 -- the order that the lines beginning with `session` show
 abbrev pub order_of : List ℕ → List (ℕ × Bool)
-order_of bs = filter_map shown_session (lines_from [] bs)
+order_of bs = filter_map shown_session (lines_of bs)

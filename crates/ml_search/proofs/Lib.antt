@@ -7,3 +7,6 @@ pub mod MoreInferences
 pub mod Beginnings
 pub mod Outlines
 pub mod Progressing
+pub mod Committing
+pub mod Lines
+pub mod OneLine

@@ -1,0 +1,12 @@
+pub mod Computed
+pub mod Powers
+pub mod Sizes
+pub mod Falls
+pub mod Turns
+pub mod MoreInferences
+pub mod Beginnings
+pub mod Outlines
+pub mod Progressing
+pub mod Committing
+pub mod Lines
+pub mod OneLine

@@ -1,3 +1,4 @@
 mod Digits
 mod Lexed
 mod Facts
+mod Outcomes

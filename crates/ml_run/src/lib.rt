@@ -3,3 +3,10 @@
 
 mod form;
 mod limits;
+mod line;
+mod load;
+mod status;
+mod words;
+
+pub use line::line_of;
+pub use status::Status;

@@ -1,5 +1,8 @@
 // What the texts of a run may hold.
 
+/// The most bytes of a rules file and of a script.
+pub const MAX_TEXT: usize = 1048576;
+
 /// The greatest number that a text may have.
 pub const MAX_NUMBER: u128 = 2305843009213693951;
 

@@ -1,4 +1,13 @@
 pub mod Sizes
 pub mod Views
 pub mod Orderings
+pub mod Bits
+pub mod Interleaving
+pub mod Leads
+pub mod CodeWords
+pub mod CanonicalOrder
+pub mod KeyHeads
+pub mod ValidBytes
+pub mod KeyOrder
+pub mod Arguments
 pub mod DefaultKeys

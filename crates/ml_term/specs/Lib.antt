@@ -9,6 +9,8 @@ pub mod Text
 pub mod CanonicalBytes
 pub mod Codes
 pub mod Keys
+pub mod KeyHeads
 pub mod Patterns
+pub mod Valid
 pub mod Seen
 pub mod Rows

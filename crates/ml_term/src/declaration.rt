@@ -2,12 +2,10 @@
 ghost use Rattle.std.specs.Prelude.{◌≡◌, ◌≤◌, ◌↔◌, IsTrue, IfOk};
 ghost use Rattle.ml_term.specs.Keys.{are_keys, default_keys};
 
+use crate::limits::MOST_KEYS;
 use crate::name::Name;
 use std::alloc::{AllocError, Global};
 use std::marker::Model;
-
-/// The most keyed arguments that a declaration has.
-pub const MOST_KEYS: u8 = 8;
 
 /// A predicate by its name and its arity, 0 to 255.
 #[derive(PartialEq, Eq, Hash, Drop)]

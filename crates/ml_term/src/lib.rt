@@ -5,14 +5,22 @@
 #![tactic(auto, using(crate::proofs::Sizes::nodes_above_zero, crate::proofs::Sizes::arity_of_trees))]
 
 mod args;
+mod canonical;
+mod code;
 mod declaration;
+mod key;
+mod limits;
 mod name;
 mod nodes;
 mod order;
 mod term;
 
 pub use args::ArgsOf;
-pub use declaration::{Decl, Keys, Kind, MOST_KEYS, Pred};
+pub use canonical::canonical_cmp;
+pub use code::code_word;
+pub use declaration::{Decl, Keys, Kind, Pred};
+pub use key::key_cmp;
+pub use limits::{INTEGER_OFFSET, MOST_ARGUMENTS, MOST_CODED_LENGTH, MOST_KEYS, MOST_NAME_BYTES};
 pub use name::Name;
 pub use nodes::{is_ground, nodes_up_to};
 pub use order::compare;

@@ -8,7 +8,7 @@ use crate::term::Term;
 use std::cmp::Ordering;
 
 /// The place of a term's kind: variables, integers, atoms, compounds.
-fn rank_of(t: &Term) -> u8
+pub(crate) fn rank_of(t: &Term) -> u8
     ensures { result ≡ rank (seen t.now) }
 {
     match t {

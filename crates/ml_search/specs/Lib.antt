@@ -19,5 +19,14 @@ pub mod Operations
 pub mod Told
 pub mod Replay
 pub mod Valid
+pub mod Seen
+pub mod Words
+pub mod Loading
 pub mod RowWords
-pub mod RowsFirst
+pub mod RowsArithmetic
+pub mod RowsControl
+pub mod RowsRelations
+pub mod RowsCatch
+pub mod RowsEndings
+pub mod RowsStored
+pub mod RowsTerms

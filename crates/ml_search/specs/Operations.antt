@@ -1,6 +1,6 @@
 -- The operations by which a session asks for the lists, with their replies, and which of them may be asked after a log. The code's types carry terms;
 -- here they carry trees.
-use Rattle.std.specs.Prelude.{ℕ, ◌+◌, ◌-◌, ◌==◌, nat_lt, nat_le, Bool, true, false, ◌&&◌, ◌||◌, List, [], ◌∷◌, ◌++◌, length, Option, Some, None, cond, is_some}
+use Rattle.std.specs.Prelude.{ℕ, ◌-◌, ◌==◌, nat_lt, nat_le, Bool, true, false, ◌&&◌, List, [], ◌∷◌, ◌++◌, length, Option, Some, None, cond, is_some}
 use Rattle.std.specs.List.{filter_map}
 use Rattle.ml_term.specs.Tree.{Tree, nodes}
 use Rattle.ml_term.specs.declared.declaration.Decl.{Decl}
@@ -44,6 +44,7 @@ opened l = filter_map list_opened l
     list_of_operation : Operation → Option ℕ
     list_of_operation (opens d p) = Some d
     list_of_operation o = None
+
     list_opened : Operation × Reply → Option ℕ
     list_opened e = list_of_operation e.0
 

@@ -7,7 +7,7 @@ use Rattle.ml_term.specs.Unify.{unifier}
 use Rattle.ml_term.specs.declared.declaration.Decl.{Decl}
 use Rattle.ml_search.specs.Limits.{most_changes}
 use Rattle.ml_search.specs.Program.{declaration}
-use Rattle.ml_search.specs.Db.{Place, at, mine, Id, Item, Db, items, head_of}
+use Rattle.ml_search.specs.Db.{Place, Item, Db, items, head_of}
 use Rattle.ml_search.specs.Changes.{Lists, Named, Alter, puts, takes, puts_first, puts_last, drops, Effect, changed, unchanged, alter, altered}
 use Rattle.ml_search.specs.Changes as C
 use Rattle.ml_search.specs.Operations.{Operation, opens, next, insert, delete, assertz, asserta, delete_at, Reply, cursor, item, no_item, added, present, removed, absent, full, Log, is_clause_list, holds_of}

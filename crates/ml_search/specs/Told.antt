@@ -1,7 +1,6 @@
 -- The changes that a log tells of.
-use Rattle.std.specs.Prelude.{ℕ, Bool, true, false, List, [], ◌∷◌, Option, Some, None, unwrap_or}
+use Rattle.std.specs.Prelude.{Bool, true, false, List, Option, Some, None, unwrap_or}
 use Rattle.std.specs.List.{filter_map}
-use Rattle.ml_term.specs.Tree.{Tree}
 use Rattle.ml_search.specs.declared.change.What.TheVariants.{Put, Taken, First, Last, Dropped}
 use Rattle.ml_search.specs.Program.{true_body}
 use Rattle.ml_search.specs.Changes.{Change}

@@ -1,5 +1,5 @@
 -- What programs, goals and scripts keep. The code keeps these facts in its types.
-use Rattle.std.specs.Prelude.{ℕ, nat_lt, nat_le, Bool, true, false, ◌&&◌, ◌||◌, not, List, [], ◌∷◌, length, is_none}
+use Rattle.std.specs.Prelude.{nat_lt, nat_le, Bool, true, ◌&&◌, ◌||◌, not, List, [], ◌∷◌, length, is_none}
 use Rattle.std.specs.List.{list_all}
 use Rattle.ml_term.specs.Tree.{Tree, variables, is_numbered, has}
 use Rattle.ml_term.specs.declared.declaration.Decl.{Decl}

@@ -5,7 +5,15 @@
 
 mod change;
 mod ending;
+pub mod laws;
+mod log;
+mod operation;
+pub mod rows;
+#[cfg(test)]
+mod tests;
 
-pub use change::What;
+pub use change::{Change, What};
 pub use ending::{Ending, EntryEnding};
+pub use log::Log;
 pub use ml_term::{Decl, Keys, Kind, Pred};
+pub use operation::{Op, Reply};

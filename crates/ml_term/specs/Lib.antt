@@ -14,3 +14,6 @@ pub mod Patterns
 pub mod Valid
 pub mod Seen
 pub mod Rows
+pub mod Unifiers
+pub mod Falling
+pub mod Instances

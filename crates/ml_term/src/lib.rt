@@ -13,7 +13,9 @@ mod limits;
 mod name;
 mod nodes;
 mod order;
+pub mod pattern_laws;
 mod term;
+pub mod unification_laws;
 
 pub use args::ArgsOf;
 pub use canonical::canonical_cmp;

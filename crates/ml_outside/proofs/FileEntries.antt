@@ -1,4 +1,4 @@
--- The map of names that a map with text keys stands for.
+-- The finite map from names to bytes that a map with text keys stands for.
 use Rattle.std.proofs.Common.{◌≡◌, ℕ, List, [], ◌∷◌, map, Bool, true, false, cond, refl, sym, ap, ◌∙◌, Some, Vec, String}
 use Rattle.std.specs.Prelude.{Option, option_map}
 use Rattle.std.specs.Ordering.{nat_cmp, is_eq, eq_by_cmp}
@@ -12,13 +12,16 @@ use Rattle.std.proofs.lemmas.Map.Text.{is_eq-slice_cmp, btree_map_updates_text}
 use Rattle.std.specs.declared.alloc.Global.{Global}
 use Rattle.ml_outside.specs.Memory.{entry_bytes, files_of}
 
+-- the bytes of what was found
 abbrev pub bytes_of : Option (Vec ℕ Global) → Option (List ℕ)
 bytes_of found = option_map (λ v. v.items) found
 
+-- the bytes of a choice are the choice of the bytes
 over_cond : (b : Bool) (v : Vec ℕ Global) (rest : Option (Vec ℕ Global)) → cond b (Some v.items) (bytes_of rest) ≡ bytes_of (cond b (Some v) rest)
 over_cond true v rest = refl
 over_cond false v rest = refl
 
+-- the first entry of a name has the bytes of the first value of that key
 find_entry : (es : List (String Global × Vec ℕ Global)) (q : List ℕ) → find (slice_cmp nat_cmp) q (map entry_bytes es) ≡ bytes_of (lookup (is_at (λ k. slice_cmp nat_cmp q (string_bytes k))) es)
 find_entry [] q = refl
 find_entry (e ∷ es) q = ap (cond (is_eq (slice_cmp nat_cmp q (string_bytes e.0))) (Some e.1.items)) (find_entry es q) ∙ over_cond (is_eq (slice_cmp nat_cmp q (string_bytes e.0))) e.1 _

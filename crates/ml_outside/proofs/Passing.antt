@@ -1,9 +1,9 @@
 -- Bytes that pass from a reader or to a writer in several steps.
-use Rattle.std.proofs.Common.{◌≡◌, ℕ, ◌+◌, ◌-◌, ◌^◌, ◌<◌, ◌≤◌, min, List, [], ◌++◌, length, take, drop, None, Some, IfSome, Ok, refl, sym, ap, ◌∙◌, subst, arith, append_assoc, append-nil, take-append-drop, length-take}
+use Rattle.std.proofs.Common.{◌≡◌, ℕ, ◌+◌, ◌-◌, ◌^◌, ◌<◌, ◌≤◌, min, List, ◌++◌, length, take, drop, None, Some, IfSome, Ok, sym, ap, ◌∙◌, arith, append_assoc, take-append-drop, length-take}
 use Rattle.std.specs.Prelude.{Option, option_map, Vec}
 use Rattle.std.proofs.lemmas.List.{take_all, take_rest}
-use Rattle.std.proofs.KnownBytes.{Appends-nil, Appends-trans, Appends-kept}
-use Rattle.std.specs.Io.KnownBytes.{Appends, Keeps}
+use Rattle.std.proofs.KnownBytes.{Appends-trans}
+use Rattle.std.specs.Io.KnownBytes.{Appends}
 use Rattle.std.specs.declared.alloc.Global.{Global}
 use Rattle.ml_outside.specs.Held.{Finds}
 
@@ -12,9 +12,6 @@ pub record Passed (before now : Option (List ℕ)) (bytes rest : List ℕ) : Typ
   pub front : List ℕ
   pub split : bytes ≡ front ++ rest
   pub appended : Appends before now front
-
-pub passed_none : (before : Option (List ℕ)) (bytes : List ℕ) → Passed before before bytes bytes
-passed_none before bytes = record { front = []; split = refl; appended = Appends-nil before }
 
 -- the writer took n bytes of the rest
 pub passed_more : (before now after : Option (List ℕ)) (bytes rest : List ℕ) (n : ℕ) → Passed before now bytes rest → Appends now after (take n rest)
@@ -26,19 +23,6 @@ passed_more before now after bytes rest n passed took = record {
       ∙ ap (λ l. (passed.front ++ take n rest) ++ l) (sym (take_rest rest n));
   appended = Appends-trans before now after passed.front (take n rest) passed.appended took;
 }
-
--- a call that took nothing
-pub passed_kept : (before now after : Option (List ℕ)) (bytes rest : List ℕ) → Passed before now bytes rest → Keeps now after → Passed before after bytes rest
-passed_kept before now after bytes rest passed kept = record {
-  front = passed.front;
-  split = passed.split;
-  appended = Appends-kept before now after passed.front passed.appended kept;
-}
-
--- nothing is left
-pub passed_all : (before now : Option (List ℕ)) (bytes rest : List ℕ) → Passed before now bytes rest → rest ≡ [] → Appends before now bytes
-passed_all before now bytes rest passed none =
-    subst (Appends before now) (sym (passed.split ∙ ap (λ l. passed.front ++ l) none ∙ append-nil passed.front)) passed.appended
 
 -- a front that is within the limit, and was asked for one more, is the whole
 pub whole_front : (found : Option (List ℕ)) (limit most : ℕ) (v : Vec ℕ Global) → most ≡ min (limit + 1) (2 ^ 64 - 1)

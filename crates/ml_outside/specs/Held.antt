@@ -12,8 +12,9 @@ use Rattle.ml_outside.specs.declared.shelf.FetchStop.TheVariants.{Absent, TooLon
 abbrev pub Files : Type 0
 Files = map.FinMap (slice_cmp nat_cmp) (List ℕ)
 
--- What a fetch may answer where this stands under the name: but for a fault and want of memory, the bytes exactly where
--- they are within the limit, `TooLong` exactly where they are more, and `Absent` exactly where there are none.
+-- What a fetch may answer where this stands under the name. But for a fault and want of memory:
+-- the bytes exactly where they are within the limit, `TooLong` exactly where they are more, and
+-- `Absent` exactly where there are none.
 abbrev pub Finds : Option (List ℕ) → ℕ → Result (Vec ℕ Global) FetchStop → Type 0
 Finds found limit (Ok bytes) = (found ≡ Some bytes.items) × (length bytes.items ≤ limit)
 Finds found limit (Err Absent) = found ≡ None
@@ -25,4 +26,5 @@ Finds found limit (Err OutOfMemory) = Unit {0}
 abbrev pub OthersStay : List ℕ → Option Files → Option Files → Type 0
 OthersStay name None after = after ≡ None
 OthersStay name (Some before) None = ⊥
-OthersStay name (Some before) (Some after) = (other : List ℕ) → other ≢ name → map.get after other ≡ map.get before other
+OthersStay name (Some before) (Some after) =
+    (other : List ℕ) → other ≢ name → map.get after other ≡ map.get before other

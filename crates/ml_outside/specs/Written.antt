@@ -6,10 +6,12 @@ use Rattle.std.specs.Io.KnownBytes.{Appends}
 abbrev pub Appended : Option (List ℕ) → Option (List ℕ) → List ℕ → Type 0
 Appended before after bytes = after ≡ option_map (λ written. written ++ bytes) before
 
--- a front of these bytes was appended, none or all of them included
+-- a front of these bytes was appended: some of them, all or none
 abbrev pub AppendedFront : Option (List ℕ) → Option (List ℕ) → List ℕ → Type 0
-AppendedFront before after bytes = (n : ℕ) × (n ≤ length bytes) × Appended before after (take n bytes)
+AppendedFront before after bytes =
+    (n : ℕ) × (n ≤ length bytes) × Appended before after (take n bytes)
 
--- the same of a writer, of which nothing is said where it doesn't tell
+-- a front of these bytes went to a writer, of which nothing is said where it doesn't tell
 abbrev pub TookFront : Option (List ℕ) → Option (List ℕ) → List ℕ → Type 0
-TookFront before after bytes = (front : List ℕ) × (rest : List ℕ) × (bytes ≡ front ++ rest) × Appends before after front
+TookFront before after bytes =
+    (front : List ℕ) × (rest : List ℕ) × (bytes ≡ front ++ rest) × Appends before after front

@@ -1,4 +1,4 @@
-// The files of a folder as a shelf: the trusted edge. It tells its counts, and nothing of what a file holds.
+// The files of a folder as a shelf: the trusted edge. It tells nothing of what a file holds.
 ghost use Rattle.std.specs.Prelude.{◌≡◌, ◌≤◌, None, Some, length, IfOk, IfSome, IsErrOf};
 ghost use Rattle.ml_outside.specs.Causes.{no_faults};
 ghost use Rattle.ml_outside.specs.Held.{Finds};
@@ -11,9 +11,9 @@ use std::io::{ErrorKind, Read};
 use std::marker::Model;
 use std::rt::Files;
 
-/// The files that the system finds under their names, seen from the folder that the program runs in.
+/// The files that the system finds under their names, from the folder that the program runs in.
 ///
-/// Contracts see it as its two counts of faults. Each is a number of 64 bits, and stands still at its last value.
+/// Contracts see it as its two counts of faults, of 64 bits, which stand still at their last value.
 #[derive(Drop)]
 pub struct DirShelf<'a, R: Files> {
     rt: &'a R,
@@ -49,8 +49,8 @@ impl<R: Files> Shelf for DirShelf<'_, R> {
 
     ghost put_faults = { λ shelf. shelf.put_faults };
 
-    /// A missing file is `Absent`. Every other fault of opening or reading is counted, as is a file that ends before
-    /// the length that the system told of it.
+    /// A missing file is `Absent`. Every other fault of opening or reading is counted, and so is
+    /// a file that ends before the length that the system tells of it.
     fn fetch(&mut self, alloc: Global, name: &str, limit: usize) -> Result<Vec<u8>, FetchStop> {
         let result = read_named(self.rt, alloc, name, limit);
         if matches!(result, Err(FetchStop::Failed)) {
@@ -87,7 +87,7 @@ fn read_named<R: Files>(
     }
 }
 
-// The bytes of a file that was opened. One that ends before the length that the system tells of it was cut short.
+// The bytes of a file that was opened. It was cut short if it ends before its told length.
 fn read_open<F: Read + OpenFile + Drop>(
     alloc: Global,
     file: F,

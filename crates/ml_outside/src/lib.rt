@@ -1,9 +1,10 @@
 //! The outside of the program: named texts that are fetched and put, and output that is written.
 //!
-//! It stands on std alone. The layers above are generic over `Shelf` and `Sink`: they read what is held, what was
-//! written and the counts of faults, and never what a file or a terminal does.
-//! `MemShelf` and `MemSink` tell all of that; `DirShelf` and `OutSink` are the trusted edge, and tell their counts alone.
-//! What carries the layer: no fault is told that was not counted, and a count never falls.
+//! It stands on std alone. The layers above are generic over `Shelf` and `Sink`: they may use
+//! what is held, what was written and the counts of faults, and nothing else of the outside.
+//! `MemShelf` and `MemSink` tell all of that. `DirShelf` and `OutSink` are the trusted edge: they
+//! tell their counts, and nothing of what a file or a terminal has.
+//! What carries the layer: a failure is told only where it was counted, and no count ever falls.
 #![tactic(auto)]
 
 #[cfg(test)]

@@ -1,4 +1,4 @@
-// Standard output as a sink: the trusted edge. It tells its count, and nothing of what a terminal shows.
+// Standard output as a sink: the trusted edge. It tells nothing of what a terminal shows.
 ghost use Rattle.std.specs.Prelude.{◌≡◌, None};
 
 use crate::transfer::write_whole;
@@ -9,7 +9,7 @@ use std::marker::Model;
 
 /// The runtime's standard output. Nothing is kept back: at `Ok` the system has all of the bytes.
 ///
-/// Contracts see it as its count of faults, a number of 64 bits that stands still at its last value.
+/// Contracts see it as its count of faults, of 64 bits, which stands still at its last value.
 #[derive(Drop)]
 pub struct OutSink<'a, P: Print> {
     rt: &'a P,

@@ -24,7 +24,8 @@ pub enum FetchStop {
 /// Why a put did not end well.
 #[derive(Clone, Copy, Debug, PartialEq, Eq)]
 pub enum PutStop {
-    /// The outside failed, and the shelf counted it. Nothing is told of that name; all other names stay.
+    /// The outside failed, and the shelf counted it. Nothing is told of what that name holds then;
+    /// all other names stay.
     Failed,
     /// Memory was refused. The shelf holds what it held.
     OutOfMemory,
@@ -69,21 +70,26 @@ pub trait Shelf {
     fn fetch(&mut self, alloc: Global, name: &str, limit: usize) -> Result<Vec<u8>, FetchStop>
         ensures held { held self.new ≡ held self.old }
         ensures limit { IfOk result (λ bytes. length bytes.items ≤ limit) }
-        ensures content { IfSome (held self.old) (λ files. Finds (map.get files name.now) limit result) }
+        ensures content { IfSome (held self.old)
+            (λ files. Finds (map.get files name.now) limit result) }
 
         // A failure comes only where it was counted; want of memory is no fault.
         ensures cause { HasCause (faults self.old) (faults self.new) result FetchStop.Failed }
-        ensures uncounted { IsErrOf result FetchStop.OutOfMemory → faults self.new ≡ faults self.old }
+        ensures uncounted { IsErrOf result FetchStop.OutOfMemory
+            → faults self.new ≡ faults self.old }
         ensures put_faults { put_faults self.new ≡ put_faults self.old };
 
     /// Puts the bytes under a name, in the place of those that were there.
     fn put(&mut self, alloc: Global, name: &str, bytes: &[u8]) -> Result<(), PutStop>
-        ensures ok { OnOk result (held self.new ≡ option_map (λ files. map.insert files name.now bytes.now) (held self.old)) }
+        ensures ok { OnOk result (held self.new
+            ≡ option_map (λ files. map.insert files name.now bytes.now) (held self.old)) }
         ensures memory { IsErrOf result PutStop.OutOfMemory → held self.new ≡ held self.old }
-        ensures failed { IsErrOf result PutStop.Failed → OthersStay name.now (held self.old) (held self.new) }
+        ensures failed { IsErrOf result PutStop.Failed
+            → OthersStay name.now (held self.old) (held self.new) }
 
         // A failure comes only where it was counted; want of memory is no fault.
         ensures cause { HasCause (put_faults self.old) (put_faults self.new) result PutStop.Failed }
-        ensures uncounted { IsErrOf result PutStop.OutOfMemory → put_faults self.new ≡ put_faults self.old }
+        ensures uncounted { IsErrOf result PutStop.OutOfMemory
+            → put_faults self.new ≡ put_faults self.old }
         ensures faults { faults self.new ≡ faults self.old };
 }

@@ -9,7 +9,8 @@ use std::alloc::{AllocError, Global};
 /// Why a write did not end well.
 #[derive(Clone, Copy, Debug, PartialEq, Eq)]
 pub enum WriteStop {
-    /// The outside failed, and the sink counted it. A front of the bytes was appended, all or none of them included.
+    /// The outside failed, and the sink counted it. A front of the bytes was appended: some of
+    /// them, all or none.
     Failed,
     /// Memory was refused. Nothing was appended.
     OutOfMemory,
@@ -34,10 +35,13 @@ pub trait Sink {
     /// Appends the bytes, all of them at `Ok`.
     fn write_all(&mut self, alloc: Global, bytes: &[u8]) -> Result<(), WriteStop>
         ensures ok { OnOk result (Appended (written self.old) (written self.new) bytes.now) }
-        ensures failed { IsErrOf result WriteStop.Failed → AppendedFront (written self.old) (written self.new) bytes.now }
-        ensures memory { IsErrOf result WriteStop.OutOfMemory → written self.new ≡ written self.old }
+        ensures failed { IsErrOf result WriteStop.Failed
+            → AppendedFront (written self.old) (written self.new) bytes.now }
+        ensures memory { IsErrOf result WriteStop.OutOfMemory
+            → written self.new ≡ written self.old }
 
         // A failure comes only where it was counted; want of memory is no fault.
         ensures cause { HasCause (faults self.old) (faults self.new) result WriteStop.Failed }
-        ensures uncounted { IsErrOf result WriteStop.OutOfMemory → faults self.new ≡ faults self.old };
+        ensures uncounted { IsErrOf result WriteStop.OutOfMemory
+            → faults self.new ≡ faults self.old };
 }

@@ -1,5 +1,5 @@
-// Bytes from a reader up to a limit, and bytes to a writer to the last one. A reader or a writer may give or take less
-// than it was asked for, be interrupted, or fail half-way.
+// Bytes from a reader up to a limit, and bytes to a writer to the last one. A reader or a writer
+// may give or take less than it was asked for, be interrupted, or fail half-way.
 ghost use Rattle.std.specs.Prelude.{◌≡◌, ◌≢◌, ◌≤◌, ◌↔◌, Some, None, length, take, IfOk, OnOk, OnErr, IfSome, IsErrOf, IsOkUnless};
 ghost use Rattle.std.specs.Io.KnownBytes.{Appends, Keeps};
 ghost use Rattle.std.specs.IoError.{error_kind, raw_os_error};
@@ -31,9 +31,10 @@ pub fn read_up_to<R: Read + Drop>(
     Ok(bytes)
 }
 
-// An error that the system gave is a fault, whatever it says of memory. What is left is memory that was refused here.
+// An error of the system is a fault, whatever it says of memory. Else memory was refused here.
 fn stop_at(error: &io::Error) -> FetchStop
-    ensures memory { (result ≡ FetchStop.OutOfMemory) ↔ ((raw_os_error error.now ≡ None) × (error_kind error.now ≡ ErrorKind.OutOfMemory)) }
+    ensures memory { (result ≡ FetchStop.OutOfMemory)
+        ↔ ((raw_os_error error.now ≡ None) × (error_kind error.now ≡ ErrorKind.OutOfMemory)) }
     ensures fault { result ≢ FetchStop.OutOfMemory → result ≡ FetchStop.Failed }
 {
     if error.raw_os_error().is_none() && error.kind() == ErrorKind::OutOfMemory {
@@ -43,11 +44,12 @@ fn stop_at(error: &io::Error) -> FetchStop
     }
 }
 
-/// Gives the writer all of the bytes, and has it pass them on. After an error it took a front of them.
-/// A write that takes nothing of bytes that are left is an error.
+/// Gives the writer all of the bytes, and has it keep none back. After an error it took a front
+/// of them. A write that takes nothing of bytes that are left is an error.
 pub fn write_whole<W: Write>(writer: &mut W, bytes: &[u8]) -> Result<(), WriteStop>
     ensures ok { OnOk result (Appends (W.contents writer.old) (W.contents writer.new) bytes.now) }
-    ensures failed { OnErr result (TookFront (W.contents writer.old) (W.contents writer.new) bytes.now) }
+    ensures failed { OnErr result
+        (TookFront (W.contents writer.old) (W.contents writer.new) bytes.now) }
     ensures only_failed { IsOkUnless result WriteStop.Failed }
 {
     let mut rest = bytes;
@@ -67,7 +69,8 @@ pub fn write_whole<W: Write>(writer: &mut W, bytes: &[u8]) -> Result<(), WriteSt
 // One write, and how many bytes it took: none where a signal came first.
 fn write_some<W: Write>(writer: &mut W, bytes: &[u8]) -> Result<usize, WriteStop>
     ensures bound { IfOk result (λ taken. taken ≤ length bytes.now) }
-    ensures ok { IfOk result (λ taken. Appends (W.contents writer.old) (W.contents writer.new) (take taken bytes.now)) }
+    ensures ok { IfOk result
+        (λ taken. Appends (W.contents writer.old) (W.contents writer.new) (take taken bytes.now)) }
     ensures failed { OnErr result (Keeps (W.contents writer.old) (W.contents writer.new)) }
     ensures only_failed { IsOkUnless result WriteStop.Failed }
 {

@@ -1,4 +1,4 @@
-// The files of the folder that the tests run in, and the faults of reading and putting, which no clause shows.
+// Files of the folder that the tests run in, and the faults of reading and putting.
 use super::*;
 use crate::answers::is_same;
 use std::fs::Metadata;

@@ -1,4 +1,4 @@
-// The standard output of the tests, and the faults of writing, which no clause shows.
+// The standard output of the tests, and the faults of writing.
 use super::*;
 use std::cell::Cell;
 use std::fmt::Display;

@@ -1,13 +1,10 @@
 -- The words lead to one outcome.
-use Rattle.std.specs.FinMap as map
-use Rattle.std.proofs.Common.{◌≡◌, ◌∷◌, [], refl, sym, ap, ◌∙◌, subst, length, ◌<◌, ◌≤◌, ◌⊎◌, ℕ, List, None, Some, Option, inl, inr, arith}
+use Rattle.std.proofs.Common.{◌≡◌, ◌∷◌, [], refl, sym, ap, ◌∙◌, subst, length, ℕ, List, inl, inr, arith}
 use Rattle.ml_outside.specs.Held.{Files}
 use Rattle.ml_run.specs.declared.form.argument.Argument.{Argument}
 use Rattle.ml_run.specs.form.Grammar.{SpellsRules, SpellsScript}
-use Rattle.ml_run.specs.Words.{AreWords}
 use Rattle.ml_run.specs.Texts.{Text, absent, long, text, Holds}
-use Rattle.ml_run.specs.Outcomes.{Outcome, refused, inputs, ScriptLeads, RulesLead, FilesLead, Leads}
-use Rattle.ml_run.specs.declared.status.Status.TheVariants.{NotBuilt, BadWords}
+use Rattle.ml_run.specs.Outcomes.{Outcome, inputs, ScriptLeads, RulesLead, FilesLead, Leads}
 
 -- texts of rules are told apart by their bytes alone
 abbrev pub OneReading : Type 0

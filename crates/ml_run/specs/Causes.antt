@@ -2,9 +2,10 @@
 use Rattle.std.specs.Prelude.{◌≡◌, ◌⊎◌, ℕ, List, Option, IfSome}
 use Rattle.ml_outside.specs.Held.{Files}
 use Rattle.ml_outside.specs.Causes.{Rose}
-use Rattle.ml_run.specs.Texts.{absent, long, Holds, HoldsRules, HoldsNoRules, HoldsNoScript}
+use Rattle.ml_run.specs.Texts.{absent, long, Holds, HoldsRules, HoldsNoRules, HoldsScript, HoldsNoScript}
+use Rattle.ml_run.specs.declared.form.argument.Argument.{Argument}
 use Rattle.ml_run.specs.declared.status.Status.{Status}
-use Rattle.ml_run.specs.declared.status.Status.TheVariants.{Done, BadWords, NoFile, TooLong, ReadFailed, WriteFailed, OutOfMemory, NotBuilt}
+use Rattle.ml_run.specs.declared.status.Status.TheVariants.{NoFile, TooLong, ReadFailed, WriteFailed, OutOfMemory, NotBuilt}
 
 -- why the text under a name, which this word gives, isn't had
 abbrev pub FetchRefused : Option Files → List ℕ → ℕ → ℕ → ℕ → Status → Type 0
@@ -29,3 +30,11 @@ abbrev pub WriteRefused : ℕ → ℕ → Status → Type 0
 WriteRefused before now WriteFailed = Rose before now
 WriteRefused before now OutOfMemory = Unit {0}
 WriteRefused before now status = ⊥
+
+-- The first refusal: at the rules, or at the script where the rules were read, or at the output where both were.
+abbrev pub Refused : Option Files → List ℕ → List ℕ → ℕ → ℕ → ℕ → ℕ → Status → Type 0
+Refused held rules script reads reads_now writes writes_now status =
+    RulesRefused held rules reads reads_now status
+    ⊎ ((name : List ℕ) × (facts : List ℕ) × IfSome held (λ files. HoldsRules files rules name facts) × ScriptRefused held script name reads reads_now status)
+    ⊎ ((name : List ℕ) × (facts : List ℕ) × (argument : Argument) × IfSome held (λ files. HoldsRules files rules name facts) × IfSome held (λ files. HoldsScript files script name argument)
+    × WriteRefused writes writes_now status)

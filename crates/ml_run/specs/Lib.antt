@@ -5,3 +5,6 @@ pub mod Texts
 pub mod Outcomes
 pub mod Causes
 pub mod Answers
+pub mod Inputs
+pub mod Numbers
+pub mod Prints

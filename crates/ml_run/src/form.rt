@@ -12,5 +12,5 @@ mod tokens;
 pub use argument::Argument;
 pub use numbers::Numbers;
 pub use rules::{Rules, one_reading, read_rules};
-pub use script::read_script;
+pub use script::{one_goal, read_script};
 pub use tokens::ReadStop;

@@ -1,31 +1,26 @@
 -- Rules and scripts of the form, as spellings: each value has its tokens. The code reads tokens from the left.
-use Rattle.std.specs.Prelude.{◌≡◌, ℕ, ◌≤◌, Bool, not, IsTrue, All, List, [], ◌∷◌, ◌++◌, length, codes}
+use Rattle.std.specs.Prelude.{◌≡◌, ℕ, ◌≤◌, Bool, ◌&&◌, not, IsTrue, All, List, [], ◌∷◌, ◌++◌, length, codes}
 use Rattle.std.specs.List.{flat_map, list_any}
 use Rattle.std.specs.Str.{bytes_eq}
 use Rattle.ml_term.specs.Names.{is_name}
+use Rattle.ml_search.specs.Known.{is_reserved}
 use Rattle.ml_run.specs.declared.form.tokens.Mark.TheVariants.{Neck, Query, Slash, Close, End}
 use Rattle.ml_run.specs.declared.form.argument.Argument.{Argument}
 use Rattle.ml_run.specs.declared.form.argument.Argument.TheVariants.{Variable, Number}
 use Rattle.ml_run.specs.form.Classes.{IsSmall}
 use Rattle.ml_run.specs.form.Tokens.{Lexeme, word, functor, variable, numeral, sign, HasTokens}
 
+-- whether a name is one of these
+abbrev pub is_among : List (List ℕ) → List ℕ → Bool
+is_among names name = list_any (λ n. bytes_eq n name) names
+
 -- the operators that are bare names
 abbrev pub operators : List (List ℕ)
 operators = codes "is" ∷ codes "mod" ∷ codes "rem" ∷ []
 
--- the control constructs and built-ins of one argument that are bare names
-abbrev pub built_in : List (List ℕ)
-built_in =
-    codes "call" ∷ codes "once" ∷ codes "throw"
-    ∷ codes "var" ∷ codes "nonvar" ∷ codes "atom" ∷ codes "integer" ∷ codes "atomic" ∷ codes "compound" ∷ codes "callable" ∷ codes "ground"
-    ∷ codes "insert_tuple" ∷ codes "delete_tuple" ∷ codes "assertz" ∷ codes "asserta" ∷ codes "retract" ∷ []
-
-abbrev pub is_among : List (List ℕ) → List ℕ → Bool
-is_among names name = list_any (λ n. bytes_eq n name) names
-
--- whether a name may be that of the relation: it is no operator, and no built-in of one argument has it
+-- whether a name may be that of the relation: it is no operator, and no control construct or built-in of one argument has it
 abbrev pub is_free : List ℕ → Bool
-is_free name = not (is_among (operators ++ built_in) name)
+is_free name = not (is_among operators name) && not (is_reserved name 1)
 
 -- `:- relation(NAME/1).`
 abbrev pub declaration : List ℕ → List Lexeme

@@ -70,3 +70,8 @@ fn is_closed(tokens: &[Token]) -> bool
     };
     rest.is_empty()
 }
+
+/// A text spells one goal of this predicate, or none.
+pub fn one_goal()
+    ensures { (bytes name : List ℕ) (argument other : AnArgument) → SpellsScript bytes name argument → SpellsScript bytes name other → argument ≡ other }
+{}

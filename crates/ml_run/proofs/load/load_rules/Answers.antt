@@ -1,4 +1,4 @@
-use Rattle.std.proofs.Common.{◌≡◌, refl, Err, IfSome, ap, sym, subst}
+use Rattle.std.proofs.Common.{refl, Err, ap, sym, subst}
 use Rattle.std.proofs.lemmas.Option.{IfSome_then}
 use Rattle.ml_run.specs.form.Grammar.{SpellsRules}
 use Rattle.ml_run.proofs.load.load_rules.Goals as goal

@@ -1,0 +1,17 @@
+mod Digits
+mod Lexed
+mod Facts
+mod Outcomes
+mod Ends
+mod Unifying
+mod Searching
+mod Knowing
+mod Asking
+mod Writing
+mod Printing
+mod Ordering
+mod Loading
+mod Reserved
+mod Placing
+mod Refusals
+mod Histories

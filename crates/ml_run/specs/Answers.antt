@@ -1,0 +1,46 @@
+-- Why a run ended as it did.
+use Rattle.std.specs.Prelude.{◌≡◌, ◌⊎◌, ℕ, List, Option, IfSome}
+use Rattle.ml_outside.specs.Held.{Files}
+use Rattle.ml_outside.specs.Causes.{Rose}
+use Rattle.ml_run.specs.Words.{AreWords, AreBad, NamesFile}
+use Rattle.ml_run.specs.Texts.{HoldsRules}
+use Rattle.ml_run.specs.Outcomes.{Outcome, refused, Leads, HasInputs, status_of}
+use Rattle.ml_run.specs.declared.status.Status.{Status}
+use Rattle.ml_run.specs.declared.status.Status.TheVariants.{Done, BadWords, NoFile, TooLong, ReadFailed, WriteFailed, OutOfMemory, NotBuilt}
+
+-- the counts of faults of a shelf and of a sink, before a call and after it
+pub record Counts : Type 0 where
+  pub reads : ℕ
+  pub reads_now : ℕ
+  pub writes : ℕ
+  pub writes_now : ℕ
+
+-- a word names a file whose text was refused in this way; where the shelf tells, this is the first refusal
+abbrev pub RefusesFile : Option Files → List (List ℕ) → ℕ → Status → Type 0
+RefusesFile held words i status = NamesFile words i × IfSome held (λ files. Leads files words (refused status))
+
+-- a word names the rules, or the script where the rules were read
+abbrev pub ReachesFile : Option Files → List (List ℕ) → ℕ → Type 0
+ReachesFile held words i =
+    (rules : List ℕ) × (script : List ℕ) × AreWords words rules script
+    × ((i ≡ 1) ⊎ ((i ≡ 2) × IfSome held (λ files. (name : List ℕ) × (facts : List ℕ) × HoldsRules files rules name facts)))
+
+-- when each status comes; for want of memory nothing is said
+abbrev pub IsCaused : Option Files → List (List ℕ) → Counts → Status → Type 0
+IsCaused held words counts Done = IfSome held (λ files. HasInputs files words)
+IsCaused held words counts BadWords = AreBad words
+IsCaused held words counts (NoFile i) = RefusesFile held words i (NoFile i)
+IsCaused held words counts (TooLong i) = RefusesFile held words i (TooLong i)
+IsCaused held words counts (ReadFailed i) = Rose counts.reads counts.reads_now × ReachesFile held words i
+IsCaused held words counts WriteFailed = Rose counts.writes counts.writes_now × IfSome held (λ files. HasInputs files words)
+IsCaused held words counts OutOfMemory = Unit {0}
+IsCaused held words counts (NotBuilt i) = RefusesFile held words i (NotBuilt i)
+
+-- no fault was counted
+pub record IsQuiet (counts : Counts) : Type 0 where
+  pub no_read_fault : Rose counts.reads counts.reads_now → ⊥
+  pub no_write_fault : Rose counts.writes counts.writes_now → ⊥
+
+-- what the words lead to is told, unless memory is refused
+abbrev pub TellsOutcome : Files → List (List ℕ) → Status → Type 0
+TellsOutcome files words status = (outcome : Outcome) → Leads files words outcome → (status ≡ status_of outcome) ⊎ (status ≡ OutOfMemory)

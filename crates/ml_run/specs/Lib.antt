@@ -1,0 +1,10 @@
+pub mod form
+pub mod Words
+pub mod Status
+pub mod Texts
+pub mod Outcomes
+pub mod Causes
+pub mod Answers
+pub mod Inputs
+pub mod Numbers
+pub mod Prints

@@ -1,0 +1,4 @@
+pub mod Classes
+pub mod Tokens
+pub mod Reserved
+pub mod Grammar

@@ -1,0 +1,16 @@
+//! Runs sessions over what a shelf holds, and prints what they did.
+#![tactic(auto)]
+
+mod block;
+mod form;
+mod limits;
+mod line;
+mod load;
+mod relation;
+mod run;
+mod status;
+mod words;
+
+pub use line::line_of;
+pub use run::serial;
+pub use status::Status;

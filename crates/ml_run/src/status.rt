@@ -1,0 +1,43 @@
+// How a run ended.
+
+/// How a run ended. A word that is named is named by its place in the words, from 0.
+#[derive(Clone, Copy, Debug, PartialEq, Eq)]
+pub enum Status {
+    /// All was done.
+    Done,
+    /// The words aren't of the command's form.
+    BadWords,
+    /// Nothing is held under the name that this word gives.
+    NoFile(usize),
+    /// What is held under the name that this word gives is over the limit.
+    TooLong(usize),
+    /// The shelf failed at the fetch of this word, and counted it.
+    ReadFailed(usize),
+    /// The output failed, and the sink counted it.
+    WriteFailed,
+    /// Memory was refused.
+    OutOfMemory,
+    /// What is held under the name that this word gives isn't of the form that is read.
+    NotBuilt(usize),
+}
+
+impl Status {
+    ghost use Rattle.std.specs.Prelude.{◌≡◌};
+    ghost use Rattle.ml_run.specs.Status.{number_of};
+
+    /// The number that the program ends with. It takes no memory.
+    pub fn number(&self) -> u8
+        ensures { result ≡ number_of self.now }
+    {
+        match *self {
+            Status::Done => 0,
+            Status::BadWords => 2,
+            Status::NoFile(_) => 3,
+            Status::TooLong(_) => 4,
+            Status::ReadFailed(_) => 5,
+            Status::WriteFailed => 9,
+            Status::OutOfMemory => 11,
+            Status::NotBuilt(_) => 13,
+        }
+    }
+}

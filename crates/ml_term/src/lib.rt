@@ -20,9 +20,9 @@ pub mod pattern_laws;
 mod term;
 #[cfg(test)]
 mod tests;
+pub mod unification_laws;
 mod valid;
 pub mod worked_rows;
-pub mod unification_laws;
 
 pub use args::ArgsOf;
 pub use canonical::canonical_cmp;

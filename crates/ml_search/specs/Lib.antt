@@ -18,7 +18,7 @@ pub mod Printed
 pub mod Operations
 pub mod Told
 pub mod Replay
-pub mod Valid
+pub mod WellFormed
 pub mod Seen
 pub mod Words
 pub mod Loading

@@ -85,11 +85,8 @@ module _ (program : Program) where
 
   -- the checks of `assertz(C)` and `asserta(C)`: those of `retract(C)`, and then two more
   abbrev pub assert_fault : Tree → Tree → Option Tree
-  assert_fault h b = then_more (retract_fault h b)
-    where
-      then_more : Option Tree → Option Tree
-      then_more (Some t) = Some t
-      then_more None = first_fault ((not (is_callable b), type_error (codes "callable") b) ∷ (is_over_bytes (clause_term h b), resource_error (codes "item")) ∷ [])
+  assert_fault h b =
+      or_else (retract_fault h b) (first_fault ((not (is_callable b), type_error (codes "callable") b) ∷ (is_over_bytes (clause_term h b), resource_error (codes "item")) ∷ []))
 
   -- what a store built-in is where no check applies
   abbrev pub known_unless : Option Tree → Known → Known

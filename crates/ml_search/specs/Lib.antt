@@ -14,6 +14,7 @@ pub mod Known
 pub mod Search
 pub mod Session
 pub mod History
+pub mod Endings
 pub mod Printed
 pub mod Operations
 pub mod Told

@@ -1,7 +1,7 @@
 -- A history that begins with committed lists ends with committed lists.
-use Rattle.std.specs.Prelude.{◌≡◌, ℕ, ◌+◌, Bool, true, ◌&&◌, List, [], ◌∷◌, map, Option, Some, None}
+use Rattle.std.specs.Prelude.{◌≡◌, ℕ, ◌+◌, Bool, true, List, [], ◌∷◌, map, Option, Some, None}
 use Rattle.std.specs.List.{list_all}
-use Rattle.std.proofs.Common.{refl, ap, sym, ◌∙◌, arith}
+use Rattle.std.proofs.Common.{refl}
 use Rattle.ml_search.specs.Program.{Program, Script}
 use Rattle.ml_search.specs.Db.{Place, at, mine, Item, Db, is_placed, is_committed}
 use Rattle.ml_search.specs.Session.{Session}

@@ -10,3 +10,7 @@ pub mod Progressing
 pub mod Committing
 pub mod Lines
 pub mod OneLine
+pub mod Decimals
+pub mod Showing
+pub mod Quiet
+pub mod Orders

@@ -1,7 +1,6 @@
 -- Lines of bytes, one after another.
 use Rattle.std.specs.Prelude.{◌≡◌, ℕ, ◌==◌, Bool, true, false, not, ◌&&◌, cond, List, [], ◌∷◌, ◌++◌}
-use Rattle.std.specs.List.{filter_map, flat_map}
-use Rattle.std.proofs.Common.{refl, ap, sym, ◌∙◌, arith}
+use Rattle.std.proofs.Common.{refl, ap, ◌∙◌, arith}
 use Rattle.ml_search.specs.Session.{line}
 use Rattle.ml_search.specs.Printed.{onto_first, lines_of}
 use Rattle.ml_search.specs.Words.{is_one_line}
@@ -33,7 +32,8 @@ lines_of_beginning (b ∷ xs) ys = by (b == 10) (lines_of xs) (lines_of_beginnin
     onto : (ls : List (List ℕ)) (zs : List (List ℕ)) → (us : List (List ℕ)) × (onto_first b (ls ++ zs) ≡ onto_first b ls ++ us)
     onto [] zs = (onto_first b zs, refl)
     onto (l ∷ ls) zs = (zs, refl)
+
     by : (c : Bool) (ls : List (List ℕ)) → (zs : List (List ℕ)) × (lines_of (xs ++ ys) ≡ ls ++ zs)
-      → (us : List (List ℕ)) × (cond c ([] ∷ lines_of (xs ++ ys)) (onto_first b (lines_of (xs ++ ys))) ≡ cond c ([] ∷ ls) (onto_first b ls) ++ us)
+        → (us : List (List ℕ)) × (cond c ([] ∷ lines_of (xs ++ ys)) (onto_first b (lines_of (xs ++ ys))) ≡ cond c ([] ∷ ls) (onto_first b ls) ++ us)
     by true ls (zs, e) = (zs, ap (λ ms. [] ∷ ms) e)
     by false ls (zs, e) = let u = onto ls zs in (u.0, ap (onto_first b) e ∙ u.1)

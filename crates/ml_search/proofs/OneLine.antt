@@ -1,14 +1,14 @@
 -- No text of a term has a line feed, nor has a number.
-use Rattle.std.specs.Prelude.{◌≡◌, ℕ, zero, suc, ◌+◌, ◌-◌, ◌/◌, ◌%◌, ◌<◌, ◌≤◌, ◌==◌, nat_lt, nat_le, ℤ, pos, negsuc, Bool, true, false, not, ◌&&◌, ◌||◌, cond, List, [], ◌∷◌, ◌++◌, slice_index, codes}
+use Rattle.std.specs.Prelude.{◌≡◌, ℕ, zero, suc, ◌+◌, ◌-◌, ◌/◌, ◌%◌, ◌==◌, nat_lt, nat_le, ℤ, pos, negsuc, Bool, true, false, not, ◌&&◌, ◌||◌, cond, List, [], ◌∷◌, ◌++◌, slice_index, codes}
 use Rattle.std.specs.List.{list_all, flat_map}
 use Rattle.std.specs.Str.{bytes_eq}
-use Rattle.std.proofs.Common.{refl, ap, sym, ◌∙◌, arith}
+use Rattle.std.proofs.Common.{refl, ap, ◌∙◌, arith}
 use Rattle.std.proofs.lemmas.Bool.{eqb-true}
 use Rattle.ml_search.proofs.Lines.{first_holds, second_holds}
 use Rattle.std.proofs.lemmas.Slice.Eq.{bytes_eq-Decides}
 use Rattle.ml_term.specs.Tree.{Tree, Trees, variable, integer, atom, compound, no_trees, tree, variables, firsts}
 use Rattle.ml_term.specs.Decimal.{digits_of, decimal_text, integer_text}
-use Rattle.ml_term.specs.Text.{is_lowercase, is_uppercase, is_digit, is_alphanumeric, is_symbol, is_word, opens_comment, is_symbol_name, is_solo, is_bare, escape_letters, quoted_byte, atom_text, is_cell, nil, joined, compound_text, text, texts, cell_text, rest_text, number_in, text_of}
+use Rattle.ml_term.specs.Text.{is_lowercase, is_alphanumeric, is_symbol, is_word, is_symbol_name, is_solo, is_bare, escape_letters, quoted_byte, atom_text, is_cell, nil, joined, compound_text, text, texts, cell_text, rest_text, number_in, text_of}
 use Rattle.ml_search.specs.Words.{is_one_line}
 
 pub together : (xs ys : List ℕ) → is_one_line xs ≡ true → is_one_line ys ≡ true → is_one_line (xs ++ ys) ≡ true

@@ -6,3 +6,7 @@ pub mod Turns
 pub mod MoreInferences
 pub mod Beginnings
 pub mod Outlines
+pub mod Progressing
+pub mod Committing
+pub mod Lines
+pub mod OneLine

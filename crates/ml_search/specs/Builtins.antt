@@ -137,7 +137,7 @@ arg n t a next =
     unless_refused (arg_fault n t)
     (cond (nat_le 1 (number_of n) && nat_le (number_of n) (arity_of t)) (unified ((a, argument (number_of n) (arguments t)) ∷ []) next) fails)
 
--- the first element of a list, and how many there are
+-- the first element of a list; of the empty one, `[]`
 abbrev pub first_element : List Tree → Tree
 first_element [] = atom (codes "[]")
 first_element (h ∷ hs) = h

@@ -1,5 +1,6 @@
 -- Changes of the lists. The code notes them beside the items, so that they can be taken back; here each gives new lists.
-use Rattle.std.specs.Prelude.{ℕ, nat_lt, Bool, true, not, List, [], ◌∷◌, ◌++◌, length, Option, Some, None, cond, unwrap_or, is_some}
+use Rattle.std.specs.Prelude.{ℕ, nat_lt, Bool, true, not, List, [], ◌∷◌, ◌++◌, length, cond, unwrap_or, is_some, slice_get}
+use Rattle.std.specs.Option.{option_map_or}
 use Rattle.std.specs.List.{filter, list_any}
 use Rattle.ml_term.specs.Tree.{Tree}
 use Rattle.ml_term.specs.Keys.{tuple_cmp}
@@ -7,7 +8,7 @@ use Rattle.ml_term.specs.declared.declaration.Decl.{Decl}
 use Rattle.ml_search.specs.declared.change.What.{What}
 use Rattle.ml_search.specs.declared.change.What.TheVariants.{Put, Taken, First, Last, Dropped}
 use Rattle.ml_search.specs.Limits.{most_changes}
-use Rattle.ml_search.specs.Program.{name_of, arity_of, place_of, declaration, true_body}
+use Rattle.ml_search.specs.Program.{name_of, arity_of, place_of, true_body}
 use Rattle.ml_search.specs.Db.{mine, Id, Item, Db, is_less, is_same, is_same_id, items, with_items, head_of, with_id}
 
 -- a change as it is counted: what it does, and the tuple or clause
@@ -63,17 +64,13 @@ module _ (decls : List Decl) where
 
   -- the keys of a list
   abbrev pub keys_of : ℕ → List ℕ
-  keys_of d = keys_in (declaration decls d)
-    where
-      keys_in : Option Decl → List ℕ
-      keys_in None = []
-      keys_in (Some d) = d.keys
+  keys_of d = option_map_or (λ q. q.keys) (slice_get decls d) []
 
   -- one list by a function
   abbrev pub at_list : ℕ → (List Item → List Item) → Db → Db
   at_list d f db = with_items db d (f (items db d))
 
-  -- The lists after a change; what is put has the given id. All other lists and items stay.
+  -- The lists after a change; what is put has the given id, and a clause comes with its variables numbered from 0. All other lists and items stay.
   abbrev pub altered : Id → Alter Named → Db → Db
   altered a (puts t) db = at_list (list_for t) (placed (keys_of (list_for t)) (record { id = a; term = t })) db
   altered a (takes t) db = at_list (list_for t) (without_term t) db
@@ -95,11 +92,7 @@ module _ (decls : List Decl) where
   counted (takes t) db = record { what = Taken; term = t }
   counted (puts_first c) db = record { what = First; term = c }
   counted (puts_last c) db = record { what = Last; term = c }
-  counted (drops x) db = record { what = Dropped; term = term_in (with_id x.id (items db x.list)) }
-    where
-      term_in : Option Item → Tree
-      term_in None = true_body
-      term_in (Some i) = i.term
+  counted (drops x) db = record { what = Dropped; term = option_map_or (λ i. i.term) (with_id x.id (items db x.list)) true_body }
 
   -- A change by a session that has made some. What it puts is its own, with the number of the changes before as its number.
   abbrev pub alter : Alter Named → Lists → Effect × Lists

@@ -1,10 +1,11 @@
 -- The lists of a store: for each declaration the list of its items. The code keeps nested pages, flags and undo lists.
-use Rattle.std.specs.Prelude.{ℕ, zero, suc, ◌+◌, nat_le, Bool, true, false, ◌&&◌, not, List, [], ◌∷◌, length, map, take, drop, Option, Some, None, cond, codes}
+use Rattle.std.specs.Prelude.{ℕ, zero, suc, ◌+◌, nat_le, Bool, true, false, ◌&&◌, not, List, [], ◌∷◌, length, map, take, drop, Option, Some, None, cond, codes, unwrap_or, slice_get}
 use Rattle.std.specs.List.{list_all, list_any}
 use Rattle.std.specs.declared.cmp.Ordering.{Ordering}
 use Rattle.std.specs.declared.cmp.Ordering.TheVariants.{Less, Equal, Greater}
 use Rattle.std.specs.Ordering.{nat_cmp, ordering_then}
 use Rattle.ml_term.specs.Tree.{Tree, compound, no_trees, tree, is_ground, is_numbered}
+use Rattle.ml_term.specs.Valid.{is_valid}
 use Rattle.ml_term.specs.Order.{tree_cmp}
 use Rattle.ml_term.specs.CanonicalBytes.{bytes_of}
 use Rattle.ml_term.specs.Keys.{tuple_cmp, numbers_from}
@@ -65,9 +66,7 @@ is_same_id a b = is_equal (id_cmp a b)
 
 -- the list of a declaration
 abbrev pub items : Db → ℕ → List Item
-items [] d = []
-items (is ∷ db) zero = is
-items (is ∷ db) (suc d) = items db d
+items db d = unwrap_or (slice_get db d) []
 
 -- the lists with another one for a declaration
 abbrev pub with_items : Db → ℕ → List Item → Db
@@ -103,14 +102,14 @@ loaded_from n (t ∷ ts) = record { id = record { place = at 0; change = n }; te
 abbrev pub loaded : List (List Tree) → Db
 loaded = map (loaded_from 0)
 
--- a ground term of the relation
+-- a ground term of the relation, not too long
 abbrev pub is_tuple : Decl → Tree → Bool
-is_tuple d t = is_of d.pred.name d.pred.arity t && is_ground t && nat_le (length (bytes_of t)) most_bytes
+is_tuple d t = is_valid t && is_of d.pred.name d.pred.arity t && is_ground t && nat_le (length (bytes_of t)) most_bytes
 
--- `:-(Head, Body)` with a head of the predicate and a callable body, its variables numbered from 0 by first place
+-- `:-(Head, Body)` with a head of the predicate and a callable body, its variables numbered from 0 by first place, not too long
 abbrev pub is_stored_clause : Decl → Tree → Bool
 is_stored_clause d t =
-    is_of (codes ":-") 2 t && is_of d.pred.name d.pred.arity (head_of t) && is_callable (body_of t) && is_numbered t && nat_le (length (bytes_of t)) most_bytes
+    is_valid t && is_of (codes ":-") 2 t && is_of d.pred.name d.pred.arity (head_of t) && is_callable (body_of t) && is_numbered t && nat_le (length (bytes_of t)) most_bytes
 
 -- whether a declaration's list may hold a term
 abbrev pub is_allowed : Decl → Tree → Bool
@@ -161,3 +160,12 @@ is_db [] [] = true
 is_db [] (is ∷ db) = false
 is_db (d ∷ ds) [] = false
 is_db (d ∷ ds) (is ∷ db) = is_list_of d is && is_db ds db
+
+-- whether a place is that of an entry
+abbrev pub is_placed : Place → Bool
+is_placed (at n) = true
+is_placed mine = false
+
+-- whether each item of the lists was committed by an entry, or loaded
+abbrev pub is_committed : Db → Bool
+is_committed = list_all (list_all (λ i. is_placed i.id.place))

@@ -1,4 +1,4 @@
--- The terms that are raised.
+-- The terms that are raised. The code builds them where a check applies; here the checks of a row are a list.
 use Rattle.std.specs.Prelude.{ℕ, nat_lt, pos, Bool, List, [], ◌∷◌, Option, Some, None, cond, codes}
 use Rattle.std.specs.Str.{bytes_eq}
 use Rattle.ml_term.specs.Tree.{Tree, variable, integer, atom, compound, compound_1, compound_2, no_trees, tree, nodes}

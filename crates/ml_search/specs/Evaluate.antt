@@ -1,8 +1,8 @@
 -- The values of arithmetic expressions, over integers without a bound. The code adds and multiplies words of the machine.
-use Rattle.std.specs.Prelude.{ℕ, nat_lt, ℤ, pos, negsuc, ◌+ℤ◌, ◌-ℤ◌, ◌*ℤ◌, int_div, int_rem, Bool, true, false, List, [], ◌∷◌, Option, Some, None, codes, cond}
+use Rattle.std.specs.Prelude.{ℕ, ℤ, pos, negsuc, ◌+ℤ◌, ◌-ℤ◌, ◌*ℤ◌, int_div, int_rem, Bool, true, false, List, [], ◌∷◌, Option, Some, None, codes, cond}
 use Rattle.std.specs.Ordering.{int_eq}
 use Rattle.ml_term.specs.Tree.{Tree, variable, integer, atom, compound, no_trees, tree, arity}
-use Rattle.ml_search.specs.Limits.{integer_end}
+use Rattle.ml_term.specs.Valid.{is_in_range}
 use Rattle.ml_search.specs.Errors.{indicator, instantiation_error, type_error, evaluation_error}
 use Rattle.ml_search.specs.Names.{named}
 
@@ -13,8 +13,7 @@ pub data Value : Type 0 where
 
 -- a result, if it is in range
 abbrev pub in_range : ℤ → Value
-in_range (pos n) = cond (nat_lt n integer_end) (value (pos n)) (fault (evaluation_error (codes "int_overflow")))
-in_range (negsuc n) = cond (nat_lt n integer_end) (value (negsuc n)) (fault (evaluation_error (codes "int_overflow")))
+in_range z = cond (is_in_range z) (value z) (fault (evaluation_error (codes "int_overflow")))
 
 abbrev pub is_below_zero : ℤ → Bool
 is_below_zero (pos n) = false

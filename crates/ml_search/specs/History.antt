@@ -1,5 +1,5 @@
 -- A history: sessions one after another, in a given order. The code runs sessions side by side; here there is no lock, no page and no thread.
-use Rattle.std.specs.Prelude.{ℕ, zero, suc, ◌+◌, Bool, true, false, List, [], ◌∷◌, map, Option, Some, None}
+use Rattle.std.specs.Prelude.{ℕ, zero, suc, ◌+◌, Bool, true, false, List, [], ◌∷◌, map, Option, Some, None, slice_get}
 use Rattle.ml_search.specs.Program.{Program, Script}
 use Rattle.ml_search.specs.Db.{Place, at, mine, Item, Db}
 use Rattle.ml_search.specs.Session.{Session, session}
@@ -24,9 +24,7 @@ committed_at k = map (map (item_at k))
 -- the script of a session, by its number from 1
 abbrev pub script_of : List Script → ℕ → Option Script
 script_of scripts zero = None
-script_of [] (suc k) = None
-script_of (s ∷ scripts) (suc zero) = Some s
-script_of (s ∷ scripts) (suc (suc k)) = script_of scripts (suc k)
+script_of scripts (suc k) = slice_get scripts k
 
 -- the lists after an entry
 abbrev pub db_after : Option Session → ℕ → Db → Db
@@ -34,7 +32,7 @@ db_after None k db = db
 db_after (Some s) k db = committed_at k s.db
 
 module _ (program : Program) where
-  -- what a session gives: nothing where it is out of memory, which the truth value says
+  -- what a session gives: nothing where it is out of memory, which the truth value says, or where there is no script of its number
   abbrev pub ran : Option Script → Bool → Db → Option Session
   ran None out_of_memory db = None
   ran (Some script) true db = None

@@ -1,5 +1,5 @@
 -- What a goal is that is no control construct, by a program's declarations and clauses. The code looks names up in tables.
-use Rattle.std.specs.Prelude.{ℕ, nat_lt, nat_le, Bool, true, false, ◌&&◌, ◌||◌, ◌==◌, not, List, [], ◌∷◌, length, Option, Some, None, is_some, unwrap_or, codes, cond}
+use Rattle.std.specs.Prelude.{ℕ, nat_lt, nat_le, Bool, ◌&&◌, ◌||◌, ◌==◌, not, List, [], ◌∷◌, length, Option, Some, None, is_some, unwrap_or, codes, cond, option_map}
 use Rattle.std.specs.List.{list_any}
 use Rattle.std.specs.Str.{bytes_eq}
 use Rattle.ml_term.specs.Tree.{Tree, compound, no_trees, tree, is_ground, renamed}
@@ -9,13 +9,13 @@ use Rattle.ml_term.specs.declared.declaration.Kind.{Kind}
 use Rattle.ml_term.specs.declared.declaration.Kind.TheVariants.{Relation, Clauses}
 use Rattle.ml_search.specs.Limits.{most_bytes}
 use Rattle.ml_search.specs.Names.{named}
-use Rattle.ml_search.specs.Program.{Clause, Program, name_of, arity_of, true_body, clause_term, place_of, declaration, clauses_of}
+use Rattle.ml_search.specs.Program.{Clause, Program, name_of, arity_of, true_body, clause_term, place_of, declaration_of, holds_of, is_relation, is_clause_list, clauses_of}
 use Rattle.ml_search.specs.TypeTests.{is_variable, is_integer}
 use Rattle.ml_search.specs.Errors.{instantiation_error, type_error, existence_error, permission_error, resource_error, is_too_large, first_fault}
 use Rattle.ml_search.specs.Bodies.{is_callable}
 use Rattle.ml_search.specs.Builtins.{builtin, is_plain, with, or_else}
 use Rattle.ml_search.specs.Changes.{list_for}
-use Rattle.ml_search.specs.Table.{as_tuple, as_clause, Known, plain, declared, retracting, defined, refused, inserting, deleting, asserting_first, asserting_last, unknown}
+use Rattle.ml_search.specs.Table.{as_tuple, as_clause, Known, plain, declared, retracting, defined, refused, inserting, deleting, asserting_first, asserting_last, unknown, How}
 
 -- the control constructs and control built-ins
 abbrev pub control_names : List (List ℕ × ℕ)
@@ -47,33 +47,9 @@ abbrev pub is_over_bytes : Tree → Bool
 is_over_bytes t = nat_lt most_bytes (length (bytes_of t))
 
 module _ (program : Program) where
-  -- the kind of a declared predicate
-  abbrev pub kind_of : List ℕ → ℕ → Option Kind
-  kind_of f n = kind_at (place_of program.decls f n)
-    where
-      kind_in : Option Decl → Option Kind
-      kind_in None = None
-      kind_in (Some d) = Some d.kind
-
-      kind_at : Option ℕ → Option Kind
-      kind_at None = None
-      kind_at (Some k) = kind_in (declaration program.decls k)
-
-  abbrev pub is_relation : List ℕ → ℕ → Bool
-  is_relation f n = is_kind (kind_of f n)
-    where
-      is_kind : Option Kind → Bool
-      is_kind None = false
-      is_kind (Some Relation) = true
-      is_kind (Some Clauses) = false
-
-  abbrev pub is_clause_predicate : List ℕ → ℕ → Bool
-  is_clause_predicate f n = is_kind (kind_of f n)
-    where
-      is_kind : Option Kind → Bool
-      is_kind None = false
-      is_kind (Some Relation) = false
-      is_kind (Some Clauses) = true
+  -- the declaration of a predicate
+  abbrev pub declared_as : List ℕ → ℕ → Option Decl
+  declared_as f n = declaration_of program.decls f n
 
   -- whether a predicate has clauses in the program
   abbrev pub is_defined : List ℕ → ℕ → Bool
@@ -81,7 +57,7 @@ module _ (program : Program) where
 
   -- whether a predicate is no control construct and no built-in, isn't declared and has no clauses in the program
   abbrev pub is_unknown : List ℕ → ℕ → Bool
-  is_unknown f n = not (is_reserved f n || is_some (place_of program.decls f n) || is_defined f n)
+  is_unknown f n = not (is_reserved f n || is_some (declared_as f n) || is_defined f n)
 
   -- the checks of `insert_tuple(T)` and `delete_tuple(T)`
   abbrev pub tuple_fault : Tree → Option Tree
@@ -90,7 +66,7 @@ module _ (program : Program) where
       ((is_variable t, instantiation_error)
       ∷ (is_integer t, type_error (codes "callable") t)
       ∷ (is_unknown (name_of t) (arity_of t), existence_error (name_of t) (arity_of t))
-      ∷ (not (is_relation (name_of t) (arity_of t)), permission_error (name_of t) (arity_of t))
+      ∷ (not (holds_of is_relation (declared_as (name_of t) (arity_of t))), permission_error (name_of t) (arity_of t))
       ∷ (is_too_large t, resource_error (codes "term"))
       ∷ (not (is_ground t), instantiation_error)
       ∷ (is_over_bytes t, resource_error (codes "item"))
@@ -103,7 +79,7 @@ module _ (program : Program) where
       ((is_variable h, instantiation_error)
       ∷ (is_integer h, type_error (codes "callable") h)
       ∷ (is_unknown (name_of h) (arity_of h), existence_error (name_of h) (arity_of h))
-      ∷ (not (is_clause_predicate (name_of h) (arity_of h)), permission_error (name_of h) (arity_of h))
+      ∷ (not (holds_of is_clause_list (declared_as (name_of h) (arity_of h))), permission_error (name_of h) (arity_of h))
       ∷ (is_too_large (clause_term h b), resource_error (codes "term"))
       ∷ [])
 
@@ -134,14 +110,14 @@ module _ (program : Program) where
   store_known f (t ∷ []) = with (λ k. k t) (named store_built_in f)
   store_known f ts = None
 
+  -- how the items of a declaration are called
+  abbrev pub called_as : Kind → How
+  called_as Relation = as_tuple
+  called_as Clauses = as_clause
+
   -- a declared predicate, with the number of its list
   abbrev pub declared_known : List ℕ → ℕ → Option Known
-  declared_known f n = with_kind (kind_of f n)
-    where
-      with_kind : Option Kind → Option Known
-      with_kind None = None
-      with_kind (Some Relation) = Some (declared as_tuple (unwrap_or (place_of program.decls f n) 0))
-      with_kind (Some Clauses) = Some (declared as_clause (unwrap_or (place_of program.decls f n) 0))
+  declared_known f n = option_map (λ d. declared (called_as d.kind) (unwrap_or (place_of program.decls f n) 0)) (declared_as f n)
 
   -- a predicate with clauses in the program
   abbrev pub defined_known : List Clause → Option Known

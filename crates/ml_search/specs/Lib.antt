@@ -30,3 +30,4 @@ pub mod RowsCatch
 pub mod RowsEndings
 pub mod RowsStored
 pub mod RowsTerms
+pub mod RowsReplay

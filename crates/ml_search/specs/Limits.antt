@@ -1,4 +1,4 @@
--- The limits of terms, changes and answers.
+-- The limits of terms, changes and answers. The code's constants are these numbers.
 use Rattle.std.specs.Prelude.{ℕ}
 
 -- nodes of a term that is printed, called, raised or passed to the store
@@ -25,6 +25,10 @@ most_inferences = 200000
 abbrev pub most_arguments : ℕ
 most_arguments = 255
 
--- integers run from minus this number to this number less one
-abbrev pub integer_end : ℕ
-integer_end = 2305843009213693952
+-- goals of a script
+abbrev pub most_goals : ℕ
+most_goals = 4294967294
+
+-- declarations of a program
+abbrev pub most_declarations : ℕ
+most_declarations = 4294967295

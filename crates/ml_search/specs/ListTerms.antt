@@ -1,4 +1,4 @@
--- Lists as terms: cells `'.'(Head, Tail)` that end in `[]`.
+-- Lists as terms: cells `'.'(Head, Tail)` that end in `[]`. The code walks from cell to cell; here these are recursions on trees.
 use Rattle.std.specs.Prelude.{Bool, false, List, [], ◌∷◌, codes, cond}
 use Rattle.std.specs.Str.{bytes_eq}
 use Rattle.ml_term.specs.Tree.{Tree, atom, compound, compound_2, no_trees, tree}

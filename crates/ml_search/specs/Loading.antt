@@ -1,4 +1,5 @@
--- The lists with which a history begins, from items with the numbers of their declarations, in the order in which they are given.
+-- The lists with which a history begins, from items with the numbers of their declarations, in the order in which they are given. The code puts the items
+-- into files; here tuples are put in order one after another.
 use Rattle.std.specs.Prelude.{ℕ, ◌+◌, ◌==◌, List, [], ◌∷◌, Option, Some, None, cond}
 use Rattle.std.specs.List.{filter_map}
 use Rattle.std.specs.declared.cmp.Ordering.{Ordering}

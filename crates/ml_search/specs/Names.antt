@@ -1,4 +1,4 @@
--- Tables by name.
+-- Tables by name, searched from their beginning; the code compares names by a match.
 use Rattle.std.specs.Prelude.{ℕ, List, [], ◌∷◌, Option, Some, None, cond}
 use Rattle.std.specs.Str.{bytes_eq}
 

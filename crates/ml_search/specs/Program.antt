@@ -1,9 +1,11 @@
 -- What is run: a program, and the goals and scripts of sessions. The code keeps tables of compiled clauses; here a program is two lists.
-use Rattle.std.specs.Prelude.{ℕ, zero, suc, ◌==◌, Bool, false, ◌&&◌, List, [], ◌∷◌, Option, Some, None, cond, codes}
+use Rattle.std.specs.Prelude.{ℕ, suc, ◌==◌, Bool, true, false, ◌&&◌, not, List, [], ◌∷◌, find, Option, Some, None, option_map, cond, codes}
 use Rattle.std.specs.List.{filter}
 use Rattle.std.specs.Str.{bytes_eq}
 use Rattle.ml_term.specs.Tree.{Tree, variable, integer, atom, compound, compound_2, arity}
 use Rattle.ml_term.specs.declared.declaration.Decl.{Decl}
+use Rattle.ml_term.specs.declared.declaration.Kind.{Kind}
+use Rattle.ml_term.specs.declared.declaration.Kind.TheVariants.{Relation, Clauses}
 
 -- a clause; a fact has the body `true`
 pub record Clause : Type 0 where
@@ -64,17 +66,28 @@ has_predicate f n d = bytes_eq d.pred.name f && (d.pred.arity == n)
 -- the place of a predicate's declaration, from 0
 abbrev pub place_of : List Decl → List ℕ → ℕ → Option ℕ
 place_of [] f n = None
-place_of (d ∷ ds) f n = cond (has_predicate f n d) (Some 0) (after (place_of ds f n))
-  where
-    after : Option ℕ → Option ℕ
-    after None = None
-    after (Some k) = Some (suc k)
+place_of (d ∷ ds) f n = cond (has_predicate f n d) (Some 0) (option_map suc (place_of ds f n))
 
--- the declaration at a place
-abbrev pub declaration : List Decl → ℕ → Option Decl
-declaration [] k = None
-declaration (d ∷ ds) zero = Some d
-declaration (d ∷ ds) (suc k) = declaration ds k
+-- the declaration of a predicate
+abbrev pub declaration_of : List Decl → List ℕ → ℕ → Option Decl
+declaration_of ds f n = find (has_predicate f n) ds
+
+-- whether a test holds of a declaration, if there is one
+abbrev pub holds_of : (Decl → Bool) → Option Decl → Bool
+holds_of p None = false
+holds_of p (Some d) = p d
+
+-- whether a declaration is of a relation
+abbrev pub is_relation : Decl → Bool
+is_relation d = by d.kind
+  where
+    by : Kind → Bool
+    by Relation = true
+    by Clauses = false
+
+-- whether a declaration is of stored clauses
+abbrev pub is_clause_list : Decl → Bool
+is_clause_list d = not (is_relation d)
 
 -- the clauses of a predicate, in their order
 abbrev pub clauses_of : List Clause → List ℕ → ℕ → List Clause

@@ -1,16 +1,17 @@
 -- What plain lists reply to the operations of a log, one after another. The code's cursors go through pages; here a cursor is the list of the items that
 -- were there at its opening.
-use Rattle.std.specs.Prelude.{◌≡◌, ℕ, zero, suc, ◌+◌, List, [], ◌∷◌, ◌++◌, length, map, nat_lt, Bool, true, false, Option, Some, None, is_some, cond}
+use Rattle.std.specs.Prelude.{◌≡◌, ℕ, suc, ◌+◌, List, [], ◌∷◌, ◌++◌, length, map, nat_lt, Bool, true, false, Option, Some, None, is_some, cond, slice_get, option_and_then}
+use Rattle.std.specs.Option.{option_map, option_map_or}
 use Rattle.std.specs.List.{filter}
 use Rattle.ml_term.specs.Tree.{Tree, variable, variables, substituted}
 use Rattle.ml_term.specs.Unify.{unifier}
 use Rattle.ml_term.specs.declared.declaration.Decl.{Decl}
 use Rattle.ml_search.specs.Limits.{most_changes}
-use Rattle.ml_search.specs.Program.{declaration}
+use Rattle.ml_search.specs.Program.{holds_of, is_clause_list}
 use Rattle.ml_search.specs.Db.{Place, Item, Db, items, head_of}
 use Rattle.ml_search.specs.Changes.{Lists, Named, Alter, puts, takes, puts_first, puts_last, drops, Effect, changed, unchanged, alter, altered}
 use Rattle.ml_search.specs.Changes as C
-use Rattle.ml_search.specs.Operations.{Operation, opens, next, insert, delete, assertz, asserta, delete_at, Reply, cursor, item, no_item, added, present, removed, absent, full, Log, is_clause_list, holds_of}
+use Rattle.ml_search.specs.Operations.{Operation, opens, next, insert, delete, assertz, asserta, delete_at, Reply, cursor, item, no_item, added, present, removed, absent, full, Log}
 use Rattle.ml_search.specs.Told.{is_change}
 
 -- a cursor: the number of its list, and the items that were there at its opening and unify with its pattern
@@ -43,12 +44,6 @@ abbrev pub item_head : Bool → Tree → Tree
 item_head false t = t
 item_head true t = head_of t
 
--- the item at a place, if there is one
-abbrev pub at_number : {A : Type 0} → List A → ℕ → Option A
-at_number [] n = None
-at_number (x ∷ xs) zero = Some x
-at_number (x ∷ xs) (suc n) = at_number xs n
-
 -- what a cursor's member is told as
 abbrev pub told : Option Item → Reply
 told None = no_item
@@ -56,19 +51,11 @@ told (Some i) = item i.term
 
 -- item i of cursor c
 abbrev pub member : List Cursor → ℕ → ℕ → Option Item
-member cs c i = member_of (at_number cs c)
-  where
-    member_of : Option Cursor → Option Item
-    member_of None = None
-    member_of (Some k) = at_number k.members i
+member cs c i = option_and_then (λ k. slice_get k.members i) (slice_get cs c)
 
 -- the number of a cursor's list
 abbrev pub list_under : List Cursor → ℕ → ℕ
-list_under cs c = list_in (at_number cs c)
-  where
-    list_in : Option Cursor → ℕ
-    list_in None = 0
-    list_in (Some k) = k.list
+list_under cs c = option_map_or (λ k. k.list) (slice_get cs c) 0
 
 -- what an operation is to change, if it is one that changes lists and its item is there
 abbrev pub alter_of : List Cursor → Operation → Option (Alter Named)
@@ -78,26 +65,22 @@ alter_of cs (insert t) = Some (puts t)
 alter_of cs (delete t) = Some (takes t)
 alter_of cs (asserta t) = Some (puts_first t)
 alter_of cs (assertz t) = Some (puts_last t)
-alter_of cs (delete_at c i) = dropped (member cs c i)
-  where
-    dropped : Option Item → Option (Alter Named)
-    dropped None = None
-    dropped (Some j) = Some (drops (record { list = list_under cs c; id = j.id }))
+alter_of cs (delete_at c i) = option_map (λ j. drops (record { list = list_under cs c; id = j.id })) (member cs c i)
 
 -- the reply to an operation by what came of it
 abbrev pub reply_by : Operation → Effect → Reply
 reply_by o C.full = full
 reply_by (insert t) changed = added
-reply_by (insert t) unchanged = present
-reply_by (asserta t) e = added
-reply_by (assertz t) e = added
+reply_by (asserta t) changed = added
+reply_by (assertz t) changed = added
 reply_by o changed = removed
+reply_by (insert t) unchanged = present
 reply_by o unchanged = absent
 
 module _ (decls : List Decl) where
   -- whether an item of a list unifies with a pattern
   abbrev pub unifies : ℕ → Tree → Item → Bool
-  unifies d pattern i = is_some (unifier pattern (apart pattern (item_head (holds_of is_clause_list (declaration decls d)) i.term)))
+  unifies d pattern i = is_some (unifier pattern (apart pattern (item_head (holds_of is_clause_list (slice_get decls d)) i.term)))
 
   -- the cursor that an opening makes
   abbrev pub cursor_over : ℕ → Tree → Db → Cursor
@@ -135,14 +118,16 @@ module _ (decls : List Decl) where
   abbrev pub Replays : Db → Log → Type 0
   Replays db l = replay db (map (λ e. e.0) l) ≡ map (λ e. e.1) l
 
+  -- a change, if there was one; what is put has the given place and the number of the changes before
+  abbrev pub changed_once : Place → Bool → Option (Alter Named) → Progress → Progress
+  changed_once place true (Some c) p = record { db = altered decls (record { place = place; change = p.changes }) c p.db; cursors = p.cursors; changes = 1 + p.changes }
+  changed_once place true None p = record p { changes = 1 + p.changes }
+  changed_once place false c p = p
+
   -- the lists as a log left them so far, the cursors over them, and the number of changes
   abbrev pub noted : Place → Operation × Reply → Progress → Progress
   noted place (opens d pattern, r) p = record p { cursors = p.cursors ++ cursor_over d pattern p.db ∷ [] }
-  noted place (o, r) p = by (is_change r) (alter_of p.cursors o) p
-    where
-      by : Bool → Option (Alter Named) → Progress → Progress
-      by true (Some c) p = record { db = altered decls (record { place = place; change = p.changes }) c p.db; cursors = p.cursors; changes = 1 + p.changes }
-      by b c p = p
+  noted place (o, r) p = changed_once place (is_change r) (alter_of p.cursors o) p
 
   abbrev pub after_log : Place → Log → Progress → Progress
   after_log place [] p = p

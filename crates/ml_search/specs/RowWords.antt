@@ -1,12 +1,14 @@
 -- Short words for worked rows: terms, declarations, scripts, and what is printed.
-use Rattle.std.specs.Prelude.{◌≡◌, ℕ, ◌+◌, ◌-◌, false, List, [], ◌∷◌, length, map, codes, pos, negsuc, IsTrue}
-use Rattle.std.specs.List.{flat_map}
+use Rattle.std.specs.Prelude.{◌≡◌, ℕ, ◌+◌, ◌-◌, false, List, [], ◌∷◌, length, map, codes, pos, negsuc, IsTrue, ◌&&◌}
+use Rattle.std.specs.List.{flat_map, list_all}
 use Rattle.ml_term.specs.Tree.{Tree, variable, integer, atom, compound_1, compound_2, compound_3}
 use Rattle.ml_term.specs.Keys.{are_keys, numbers_from}
 use Rattle.ml_term.specs.declared.declaration.Decl.{Decl}
 use Rattle.ml_term.specs.declared.declaration.Kind.TheVariants.{Relation, Clauses}
 use Rattle.ml_search.specs.Program.{Clause, Program, Goal, commit, Script, true_body}
+use Rattle.ml_search.specs.Db.{is_db}
 use Rattle.ml_search.specs.Loading.{first_db}
+use Rattle.ml_search.specs.Valid.{is_program, is_script}
 use Rattle.ml_search.specs.Session.{line}
 use Rattle.ml_search.specs.History.{history}
 use Rattle.ml_search.specs.Printed.{printed}
@@ -108,9 +110,9 @@ prints r scripts = printed (history r.program (first_db r.program.decls r.items)
 abbrev pub lines : List (List ℕ) → List ℕ
 lines = flat_map line
 
--- some scripts print these lines
+-- a program and scripts that may be, and what they print: these lines
 abbrev pub Print : Rules → List Script → List (List ℕ) → Type 0
-Print r scripts ls = prints r scripts ≡ lines ls
+Print r scripts ls = IsTrue (is_program r.program && list_all is_script scripts && is_db r.program.decls (first_db r.program.decls r.items)) × (prints r scripts ≡ lines ls)
 
 -- one goal, whose variables have these names, prints these lines, and its session commits
 abbrev pub Answers : Rules → Tree → List (List ℕ) → List (List ℕ) → Type 0

@@ -1,7 +1,8 @@
 -- Worked rows of arithmetic.
 use Rattle.std.specs.Prelude.{ℕ, ◌++◌, List, [], ◌∷◌, codes}
 use Rattle.ml_term.specs.Tree.{Tree}
-use Rattle.ml_search.specs.RowWords.{a, a1, a2, i, minus, v0, v1, plain, Answers, Fails}
+use Rattle.ml_search.specs.Program.{Goal}
+use Rattle.ml_search.specs.RowWords.{a, a1, a2, i, minus, v0, v1, plain, Answers, Fails, goal, script, Print}
 
 -- `X is E` prints `X = TEXT`
 abbrev pub Value : Tree → List ℕ → Type 0
@@ -18,7 +19,16 @@ Holds t = Answers (plain []) t [] (codes "  true" ∷ codes "  1 answers" ∷ []
 abbrev pub HoldsNot : Tree → Type 0
 HoldsNot t = Answers (plain []) t [] (codes "  0 answers" ∷ [])
 
+-- a goal `X is E`
+abbrev is : Tree → Goal
+is e = goal (a2 (codes "is") v0 e) (codes "X" ∷ [])
+
 pub record ArithmeticRows : Type 0 where
+  pub four_goals
+      : Print (plain [])
+      (script (is (a2 (codes "mod") (minus 7) (i 2)) ∷ is (a2 (codes "rem") (minus 7) (i 2)) ∷ is (a2 (codes "//") (minus 7) (i 2)) ∷ is (a2 (codes "+") (i 2305843009213693951) (i 1)) ∷ []) ∷ [])
+      (codes "session 1 failed at goal 4" ∷ codes "goal 1" ∷ codes "  X = 1" ∷ codes "  1 answers" ∷ codes "goal 2" ∷ codes "  X = -1" ∷ codes "  1 answers"
+      ∷ codes "goal 3" ∷ codes "  X = -3" ∷ codes "  1 answers" ∷ codes "goal 4" ∷ codes "  error evaluation_error(int_overflow)" ∷ [])
   pub sum : Value (a2 (codes "+") (i 2) (i 3)) (codes "5")
   pub difference : Value (a2 (codes "-") (i 2) (i 3)) (codes "-1")
   pub product : Value (a2 (codes "*") (minus 2) (i 3)) (codes "-6")

@@ -1,7 +1,7 @@
 -- Worked rows of control: conjunctions, choices, cuts, conditions, negation, calls, `findall/3`, and unification.
 use Rattle.std.specs.Prelude.{ℕ, List, [], ◌∷◌, codes}
 use Rattle.ml_term.specs.Tree.{Tree}
-use Rattle.ml_search.specs.RowWords.{a, a1, a2, a3, i, v0, v1, and, or, then, equals, always, fact, rule, Rules, plain, Answers}
+use Rattle.ml_search.specs.RowWords.{a, a1, a2, a3, i, v0, v1, and, or, then, equals, always, fact, rule, Rules, plain, Answers, goal, script, Print}
 
 abbrev cut : Tree
 cut = a (codes "!")
@@ -33,7 +33,7 @@ rules =
     ∷ fact (a1 (codes "k") (i 7))
     ∷ [])
 
--- a goal with the variables X and Y, as many as it has
+-- a goal with the variable X, and one with X and Y
 abbrev pub Shows : Tree → List (List ℕ) → Type 0
 Shows t ls = Answers rules t (codes "X" ∷ []) ls
 
@@ -70,8 +70,8 @@ pub record ControlRows : Type 0 where
   pub a_variable_body_is_called : ShowsBoth (and (equals v0 cut) (and (or (equals v1 (i 1)) (equals v1 (i 2))) v0)) (codes "  X = !, Y = 1" ∷ codes "  X = !, Y = 2" ∷ codes "  2 answers" ∷ [])
   pub a_condition_takes_its_first_answer : Shows (a1 (codes "c") v0) (one (codes "  X = 2"))
   pub a_condition_without_answer_goes_on_with_the_else : Shows (or (then never (equals v0 (i 1))) (equals v0 (i 2))) (one (codes "  X = 2"))
-  pub a_condition_alone_fails_without_answer : Shows (or (then (a1 (codes "a") (i 4)) (equals v0 (i 1))) never) none
-  pub a_condition_without_else_fails : Shows (then (equals v0 (i 1)) never) none
+  pub a_condition_without_else_fails_without_answer : Shows (then (a1 (codes "a") (i 4)) (equals v0 (i 1))) none
+  pub a_condition_does_not_try_its_then_part_twice : Shows (then (equals v0 (i 1)) never) none
   pub a_condition_without_else_takes_one_answer : Shows (then (member_of_a v0) always) (one (codes "  X = 1"))
   pub the_then_part_keeps_its_choices : Shows (or (then always (member_of_a v0)) never) three
   pub a_choice_tries_both_sides : Shows (or (equals v0 (i 1)) (equals v0 (i 2))) (codes "  X = 1" ∷ codes "  X = 2" ∷ codes "  2 answers" ∷ [])
@@ -83,6 +83,11 @@ pub record ControlRows : Type 0 where
   pub findall_gives_the_empty_list : ShowsBoth (findall v0 never v1) (one (codes "  X = _1, Y = []"))
   pub findall_copies_with_new_variables : ShowsBoth (findall (a2 (codes "f") v0 v0) (or always (equals v0 (i 1))) v1) (one (codes "  X = _1, Y = [f(_2,_2),f(1,1)]"))
   pub findall_cuts_its_own_choices : ShowsBoth (findall v0 (and (member_of_a v0) cut) v1) (one (codes "  X = _1, Y = [1]"))
+  pub three_goals
+      : Print rules
+      (script (goal (equals v0 (a1 (codes "f") v0)) (codes "X" ∷ []) ∷ goal (equals v0 (a2 (codes ".") (i 1) (a (codes "[]")))) (codes "X" ∷ []) ∷ goal (a1 (codes "nosuch") (i 1)) [] ∷ []) ∷ [])
+      (codes "session 1 failed at goal 3" ∷ codes "goal 1" ∷ codes "  0 answers" ∷ codes "goal 2" ∷ codes "  X = [1]" ∷ codes "  1 answers"
+      ∷ codes "goal 3" ∷ codes "  error existence_error(procedure,/(nosuch,1))" ∷ [])
   pub a_variable_is_in_no_term_that_it_equals : Shows (equals v0 (a1 (codes "f") v0)) none
   pub a_list_is_printed_in_brackets : Shows (equals v0 (a2 (codes ".") (i 1) (a (codes "[]")))) (one (codes "  X = [1]"))
   pub two_variables_print_alike : ShowsBoth (equals v0 v1) (one (codes "  X = _1, Y = _1"))

@@ -1,4 +1,4 @@
--- Worked rows of endings: sessions that commit, abort, refuse, fail or find no memory, and the order that a print shows.
+-- Worked rows of endings: sessions that commit, abort, refuse, fail or find no memory, the order that a print shows, and a realistic run.
 use Rattle.std.specs.Prelude.{◌≡◌, ℕ, true, false, ◌++◌, List, [], ◌∷◌, codes}
 use Rattle.std.proofs.Common.{refl}
 use Rattle.ml_term.specs.Tree.{Tree}
@@ -95,6 +95,8 @@ pub record EndingRows : Type 0 where
       : Ends (ending_with (unless (goal (a1 (codes "throw") (a (codes "x"))) []))) (codes "failed at goal 2") (codes "goal 2" ∷ codes "  error x" ∷ []) none_found
   pub the_last_goal_uses_what_is_left_of_the_budget
       : Ends (record (ending_with (unless (goal (a1 (codes "p") (i 2)) []))) { budget = 1 }) (codes "failed at goal 2") (codes "goal 2" ∷ codes "  error resource_error(inferences)" ∷ []) none_found
+  pub what_the_last_goal_changes_is_committed
+      : Ends (ending_with (unless (goal (and (a1 (codes "insert_tuple") (a1 (codes "p") (i 2))) (a (codes "fail"))) []))) (codes "committed") [] (codes "  X = 1" ∷ codes "  X = 2" ∷ codes "  2 answers" ∷ [])
   pub an_answer_refuses_though_the_search_would_raise
       : Ends (ending_with (unless (goal (a2 (codes ";") always (a (codes "nosuch"))) []))) (codes "refused") [] none_found
   pub the_first_raised_term_ends_the_session

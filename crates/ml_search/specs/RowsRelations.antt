@@ -1,10 +1,10 @@
--- Worked rows of relations: the order of keys, codes that are equal, changes, budgets, and a realistic run.
+-- Worked rows of relations: the order of keys, codes that are equal, changes, and budgets.
 use Rattle.std.specs.Prelude.{ℕ, List, [], ◌∷◌, codes}
 use Rattle.std.proofs.Common.{refl}
 use Rattle.ml_term.specs.Tree.{Tree}
 use Rattle.ml_term.specs.declared.declaration.Decl.{Decl}
 use Rattle.ml_search.specs.Program.{Script, Goal, commit}
-use Rattle.ml_search.specs.RowWords.{a, a1, a2, i, v0, v1, and, rule, relation, goal, script, Rules, Print, Answers}
+use Rattle.ml_search.specs.RowWords.{a, a1, a2, i, v0, v1, and, or, rule, relation, goal, script, Rules, Print, Answers}
 
 -- :- relation(p/1). p(2). p(1).
 abbrev numbers : Rules
@@ -65,6 +65,7 @@ pub record RelationRows : Type 0 where
       ∷ codes "goal 1" ∷ codes "  X = 1, Y = 11" ∷ codes "  X = 2, Y = 12" ∷ codes "  2 answers"
       ∷ codes "goal 2" ∷ codes "  X = 1" ∷ codes "  X = 2" ∷ codes "  X = 11" ∷ codes "  X = 12" ∷ codes "  4 answers" ∷ [])
   pub a_tuple_that_is_there_is_inserted_once_more : Answers numbers (and (insert (p (i 1))) (p v0)) x (codes "  X = 1" ∷ codes "  X = 2" ∷ codes "  2 answers" ∷ [])
+  pub a_change_stays_where_its_branch_fails : Answers numbers (or (and (insert (p (i 5))) (a (codes "fail"))) (p v0)) x (codes "  X = 1" ∷ codes "  X = 2" ∷ codes "  X = 5" ∷ codes "  3 answers" ∷ [])
   pub a_deleted_tuple_is_gone : Answers numbers (and (delete (p (i 1))) (p v0)) x (codes "  X = 2" ∷ codes "  1 answers" ∷ [])
   pub a_tuple_that_is_not_there_cannot_be_deleted : Answers numbers (delete (p (i 3))) [] (codes "  0 answers" ∷ [])
   pub a_budget_that_is_enough : Print numbers (within 3 (goal (p v0) x) ∷ []) (codes "session 1 committed" ∷ codes "goal 1" ∷ codes "  X = 1" ∷ codes "  X = 2" ∷ codes "  2 answers" ∷ [])

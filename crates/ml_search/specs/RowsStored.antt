@@ -2,7 +2,8 @@
 use Rattle.std.specs.Prelude.{ℕ, ◌++◌, List, [], ◌∷◌, codes}
 use Rattle.std.proofs.Common.{refl}
 use Rattle.ml_term.specs.Tree.{Tree}
-use Rattle.ml_search.specs.RowWords.{a, a1, a2, a3, i, v0, v1, v2, and, always, fact, stored, relation, clauses, goal, script, Rules, Print, Answers, Fails}
+use Rattle.ml_search.specs.Program.{commit}
+use Rattle.ml_search.specs.RowWords.{a, a1, a2, a3, i, v0, v1, v2, and, always, fact, stored, relation, clauses, goal, script, Rules, Print, Answers, Fails, or, v3}
 
 -- :- clauses(r/1). :- relation(p/1). r(1). r(2). s(1).
 abbrev rules : Rules
@@ -19,6 +20,10 @@ prices =
       program = record { decls = clauses (codes "price") 2 (1 ∷ 2 ∷ []) refl ∷ []; clauses = [] };
       items = (0, stored (a2 (codes "price") v0 (i 3)) always) ∷ (0, stored (a2 (codes "price") (a (codes "pear")) (i 4)) always) ∷ [];
     }
+
+-- :- clauses(c/1). c(1).
+abbrev one_clause : Rules
+one_clause = record { program = record { decls = clauses (codes "c") 1 (1 ∷ []) refl ∷ []; clauses = [] }; items = (0, stored (a1 (codes "c") (i 1)) always) ∷ [] }
 
 abbrev r : Tree → Tree
 r = a1 (codes "r")
@@ -60,8 +65,23 @@ pub record StoredRows : Type 0 where
       : Print rules (script (goal (and (asserta (r (i 0))) (assertz (r (i 3)))) [] ∷ goal (r v0) x ∷ []) ∷ [])
       (codes "session 1 committed" ∷ codes "goal 1" ∷ codes "  true" ∷ codes "  1 answers"
       ∷ codes "goal 2" ∷ codes "  X = 0" ∷ codes "  X = 1" ∷ codes "  X = 2" ∷ codes "  X = 3" ∷ codes "  4 answers" ∷ [])
+  pub clauses_are_put_round_those_that_are_there
+      : Print one_clause (script (goal (and (asserta (a1 (codes "c") (i 0))) (assertz (a1 (codes "c") (i 2)))) [] ∷ goal (a1 (codes "c") v0) x ∷ []) ∷ [])
+      (codes "session 1 committed" ∷ codes "goal 1" ∷ codes "  true" ∷ codes "  1 answers" ∷ codes "goal 2" ∷ codes "  X = 0" ∷ codes "  X = 1" ∷ codes "  X = 2" ∷ codes "  3 answers" ∷ [])
   pub a_call_does_not_see_what_it_asserts : Shows (and (r v0) (assertz (r v0))) one_and_two
-  pub a_call_sees_what_is_retracted_meanwhile : Shows (and (r v0) (retract (r (i 2)))) (codes "  X = 1" ∷ codes "  1 answers" ∷ [])
+  pub a_call_still_gives_what_is_retracted_meanwhile : Shows (and (r v0) (a1 (codes "once") (or (retract (r (i 2))) always))) one_and_two
+  pub a_clause_that_was_retracted_is_retracted_no_more : Shows (and (r v0) (retract (r (i 2)))) (codes "  X = 1" ∷ codes "  1 answers" ∷ [])
+  pub retract_uses_one_for_each_head_that_unifies
+      : Print rules
+      (record { budget = 3; goals = goal (retract (implies (r v0) (a (codes "fail")))) x ∷ []; last = commit } ∷ record { budget = 2; goals = goal (retract (implies (r v0) (a (codes "fail")))) x ∷ []; last = commit } ∷ [])
+      (codes "session 1 committed" ∷ codes "goal 1" ∷ codes "  0 answers" ∷ codes "session 2 failed at goal 1" ∷ codes "goal 1" ∷ codes "  error resource_error(inferences)" ∷ [])
+  pub a_stored_clause_has_variables_of_its_own
+      : Answers rules
+      (and
+      (assertz (implies (r (a2 (codes "f") v0 v1)) (and (a1 (codes "s") v1) (a1 (codes "p") v2))))
+      (retract (implies (r (a2 (codes "f") v3 (Tree.variable 4))) (Tree.variable 5))))
+      (codes "Y" ∷ codes "X" ∷ codes "Z" ∷ codes "A" ∷ codes "C" ∷ codes "B" ∷ [])
+      (codes "  Y = _1, X = _2, Z = _3, A = _4, C = _5, B = ','(s(_5),p(_6))" ∷ codes "  1 answers" ∷ [])
   pub a_clause_is_retracted_once
       : Both (and (retract (r v0)) (retract (r (i 2)))) (codes "  X = 1" ∷ codes "  1 answers" ∷ []) (r v0) (codes "  0 answers" ∷ [])
   pub retract_takes_one_after_another : Both (retract (r v0)) one_and_two (r v0) (codes "  0 answers" ∷ [])

@@ -102,7 +102,7 @@ uncommitted ls ending db = record { lines = ls; ending = ending; db = db; change
 abbrev pub committed : Lists → Session
 committed lists = record { lines = []; ending = Committed; db = lists.db; changes = lists.made }
 
--- the end of a session whose last goal, which has number j, refuses the commit if it has an answer
+-- the end of a session that is refused if one more goal has an answer; j is the number behind the last goal's
 abbrev pub decided : Outcome → ℕ → Db → Session
 decided o j before = by o.found (raised_by o.end)
   where

@@ -1,5 +1,6 @@
 -- The table of the search: what is to be done with the first goal of a branch. It knows neither the lists nor the other branches, only how many
 -- these are, so that the search over lists and a search that asks for each item are two interpreters of it.
+-- The code runs instructions over a heap, and has no branches but choice points.
 use Rattle.std.specs.Prelude.{ℕ, suc, ◌+◌, Bool, true, false, List, [], ◌∷◌, map, length, Option, Some, None, codes}
 use Rattle.ml_term.specs.Tree.{Tree, variable, width, renamed, substituted}
 use Rattle.ml_term.specs.Unify.{Map, applied, unifier}

@@ -1,4 +1,4 @@
--- The changes that a log tells of.
+-- The changes that a log tells of. The code goes through a log once; here what a cursor gave is found in the whole log.
 use Rattle.std.specs.Prelude.{Bool, true, false, List, Option, Some, None, unwrap_or}
 use Rattle.std.specs.List.{filter_map}
 use Rattle.ml_search.specs.declared.change.What.TheVariants.{Put, Taken, First, Last, Dropped}

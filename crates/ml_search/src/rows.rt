@@ -5,6 +5,7 @@ ghost use Rattle.ml_search.specs.RowsCatch.{CatchRows};
 ghost use Rattle.ml_search.specs.RowsControl.{ControlRows};
 ghost use Rattle.ml_search.specs.RowsEndings.{EndingRows};
 ghost use Rattle.ml_search.specs.RowsRelations.{RelationRows};
+ghost use Rattle.ml_search.specs.RowsReplay.{ReplayRows};
 ghost use Rattle.ml_search.specs.RowsStored.{StoredRows};
 ghost use Rattle.ml_search.specs.RowsTerms.{TermRows};
 
@@ -41,4 +42,9 @@ pub fn term_rows()
 /// How sessions end, and the order that a print shows.
 pub fn ending_rows()
     ensures { EndingRows }
+{}
+
+/// Logs over plain lists: the replies, what the log tells, and the lists after it.
+pub fn replay_rows()
+    ensures { ReplayRows }
 {}

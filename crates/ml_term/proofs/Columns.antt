@@ -1,6 +1,6 @@
 -- Interleaved lists of bits: each is found again as a column, in a prefix as far as it goes.
-use Rattle.std.specs.Prelude.{◌≡◌, ℕ, zero, suc, ◌+◌, ◌*◌, ◌<◌, ◌≤◌, Bool, true, false, ◌&&◌, ◌||◌, List, [], ◌∷◌, ◌++◌, map, length, take, drop, IsTrue}
-use Rattle.std.proofs.Common.{refl, sym, ap, ◌∙◌, subst, arith, append_assoc, length-append}
+use Rattle.std.specs.Prelude.{◌≡◌, ℕ, zero, suc, ◌≤◌, Bool, true, false, ◌&&◌, List, [], ◌∷◌, ◌++◌, map, length, take, drop}
+use Rattle.std.proofs.Common.{refl, ap, ◌∙◌, arith, append_assoc, length-append}
 use Rattle.std.proofs.lemmas.List.{map-append, length-map, length-drop}
 use Rattle.std.proofs.Math.Seq.{drop-append_seam}
 use Rattle.std.proofs.Math.ListN.{drop_of_length-le}
@@ -84,7 +84,7 @@ begins_drop (suc k) (b ∷ bs) [] h = absurd (cc h)
 begins_drop (suc k) (b ∷ bs) (c ∷ cs) h = begins_drop k bs cs (and_second (same_bit b c) (begins bs cs) h)
 
 -- a column of a list that ends before it is empty
-column_past : (n a i : ℕ) (bs : List Bool) → length bs ≤ i → column a i n bs ≡ []
+pub column_past : (n a i : ℕ) (bs : List Bool) → length bs ≤ i → column a i n bs ≡ []
 column_past zero a i bs h = refl
 column_past (suc n) a i bs h = rw (drop_of_length-le bs h, column_past n a i (drop a bs) (omega (arith, length-drop a bs))) refl
 

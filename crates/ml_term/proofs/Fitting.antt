@@ -1,6 +1,5 @@
 -- The key of an item that meets a pattern fits it, and so does what begins the key.
-use Rattle.std.specs.Prelude.{◌≡◌, ℕ, zero, suc, ◌+◌, ◌-◌, ◌*◌, ◌<◌, ◌≤◌, nat_le, Bool, true, false, ◌&&◌, ◌||◌, List, [], ◌∷◌, ◌++◌, map, length, take, drop, replicate, cond, min, Option, Some, None, IsTrue, ℤ}
-use Rattle.std.specs.List.{flat_map}
+use Rattle.std.specs.Prelude.{◌≡◌, ℕ, zero, suc, ◌+◌, ◌-◌, ◌*◌, nat_le, Bool, true, false, ◌&&◌, ◌||◌, List, [], ◌∷◌, ◌++◌, map, length, drop, replicate, cond, min, Option, Some, None}
 use Rattle.std.proofs.Common.{refl, sym, ap, ◌∙◌, subst, arith, append_assoc, length-append}
 use Rattle.std.proofs.lemmas.List.{map-append, length-map, length-take-le, length-replicate}
 use Rattle.ml_term.specs.Tree.{Tree, Trees, variable, integer, atom, compound, no_trees, tree, arity, substituted, substituted_in}
@@ -10,7 +9,7 @@ use Rattle.ml_term.specs.Keys.{argument, arguments, keyed_arguments, first_bit, 
 use Rattle.ml_term.specs.Patterns.{asked_code, pattern_of, same_bits, begins, attribute, fits_at, fits_from, fits, may_hold_at, may_hold_from, may_hold}
 use Rattle.ml_term.specs.Instances.{HaveACommonInstance, is_head}
 use Rattle.ml_term.proofs.Substitution.{arity_kept}
-use Rattle.ml_term.proofs.Columns.{first_bits, all_first_bits, column_interleaved, same_bits_itself, same_bits_equal, column_begins, and_first, and_second}
+use Rattle.ml_term.proofs.Columns.{all_first_bits, column_interleaved, same_bits_itself, same_bits_equal, column_begins, and_first, and_second}
 
 -- codes have 64 bits
 pub length_of_bits : (k v : ℕ) → length (bits k v) ≡ k
@@ -31,11 +30,11 @@ length_of_code (atom f) = omega (arith, length-append (byte_bits (padded 7 f)) (
 length_of_code (compound f ts) = omega (arith, length-append (bits 8 (arity ts) ++ byte_bits (padded 6 f)) (length_bits f), length-append (bits 8 (arity ts)) (byte_bits (padded 6 f)), length_of_bits 8 (arity ts), length_of_byte_bits (padded 6 f), length_of_padded 6 f, length_of_bits 6 (min (length f) 63))
 
 -- one keyed place
-or_second : (b c : Bool) → c ≡ true → (b || c) ≡ true
+pub or_second : (b c : Bool) → c ≡ true → (b || c) ≡ true
 or_second true c h = refl
 or_second false c h = h
 
-or_first : (b c : Bool) → b ≡ true → (b || c) ≡ true
+pub or_first : (b c : Bool) → b ≡ true → (b || c) ≡ true
 or_first true c h = refl
 or_first false c h = absurd (cc h)
 
@@ -95,7 +94,7 @@ pub attribute_at : (xs : List (List Bool)) (t : Tree) (ys : List (List Bool)) (t
     → attribute a i (interleaved 64 (xs ++ code t ∷ ys) ++ tail) ≡ code t
 attribute_at xs t ys tail a i h k = column_interleaved 64 xs (code t) ys tail a i h k ∙ all_first_bits 64 (code t) (length_of_code t)
 
-and_both : (b c : Bool) → b ≡ true → c ≡ true → (b && c) ≡ true
+pub and_both : (b c : Bool) → b ≡ true → c ≡ true → (b && c) ≡ true
 and_both true c h k = k
 and_both false c h k = absurd (cc h)
 
@@ -147,18 +146,25 @@ length_of_interleaved (suc n) cs =
     let p : suc n * length cs ≡ length cs + n * length cs = omega arith in
     omega (arith, p, length-append (map first_bit cs) (interleaved n (map (drop 1) cs)), length-map cs first_bit, length_of_interleaved n (map (drop 1) cs), ap (λ z. n * z) (length-map cs (drop 1)))
 
+pub codes_as_long : (keys : List ℕ) (t : Tree) → length (map code (keyed_arguments keys t)) ≡ length keys
+codes_as_long keys t = length-map (keyed_arguments keys t) code ∙ length-map keys (λ k. argument k (arguments t))
+
 pub length_of_key_head : (keys : List ℕ) (t : Tree) → length (key_head keys t) ≡ 64 * length keys
 length_of_key_head keys t =
-    length_of_interleaved 64 (map code (keyed_arguments keys t)) ∙ ap (λ z. 64 * z) (length-map (keyed_arguments keys t) code ∙ length-map keys (λ k. argument k (arguments t)))
+    length_of_interleaved 64 (map code (keyed_arguments keys t)) ∙ ap (λ z. 64 * z) (codes_as_long keys t)
+
+-- the codes of keyed arguments, with one of them named
+pub codes_split : (before after : List ℕ) (k : ℕ) (t : Tree)
+    → map code (keyed_arguments (before ++ k ∷ after) t) ≡ map code (keyed_arguments before t) ++ code (argument k (arguments t)) ∷ map code (keyed_arguments after t)
+codes_split before after k t =
+    let at = λ (j : ℕ). argument j (arguments t) in
+    ap (map code) (map-append at before (k ∷ after)) ∙ map-append code (map at before) (map at (k ∷ after))
 
 pub code_found : (before after : List ℕ) (k : ℕ) (t : Tree) (tail : List Bool)
     → attribute (length (before ++ k ∷ after)) (length before) (key_head (before ++ k ∷ after) t ++ tail) ≡ code (argument k (arguments t))
 code_found before after k t tail =
-    let at = λ (ks : List ℕ). codes_of ks (arguments t) in
-    let parts : at (before ++ k ∷ after) ≡ at before ++ code (argument k (arguments t)) ∷ at after =
-    ap (map code) (map-append (λ j. argument j (arguments t)) before (k ∷ after)) ∙ map-append code (map (λ j. argument j (arguments t)) before) (map (λ j. argument j (arguments t)) (k ∷ after)) in
-    let whole : length (before ++ k ∷ after) ≡ length (at before ++ code (argument k (arguments t)) ∷ at after) =
-    sym (length-map (map (λ j. argument j (arguments t)) (before ++ k ∷ after)) code ∙ length-map (before ++ k ∷ after) (λ j. argument j (arguments t))) ∙ ap length parts in
-    let place : length before ≡ length (at before) = sym (length-map (map (λ j. argument j (arguments t)) before) code ∙ length-map before (λ j. argument j (arguments t))) in
+    let parts = codes_split before after k t in
+    let whole : length (before ++ k ∷ after) ≡ length (map code (keyed_arguments before t) ++ code (argument k (arguments t)) ∷ map code (keyed_arguments after t)) =
+    sym (codes_as_long (before ++ k ∷ after) t) ∙ ap length parts in
     ap (λ z. attribute (length (before ++ k ∷ after)) (length before) (interleaved 64 z ++ tail)) parts
-    ∙ attribute_at (at before) (argument k (arguments t)) (at after) tail (length (before ++ k ∷ after)) (length before) whole place
+    ∙ attribute_at (map code (keyed_arguments before t)) (argument k (arguments t)) (map code (keyed_arguments after t)) tail (length (before ++ k ∷ after)) (length before) whole (sym (codes_as_long before t))

@@ -1,24 +1,22 @@
 -- Ground terms: no substitution changes them, and what unification with one gives.
-use Rattle.std.specs.Prelude.{◌≡◌, ◌≢◌, ℕ, zero, suc, ◌+◌, ◌≤◌, true, false, Bool, ◌&&◌, ◌||◌, ◌==◌, cond, not, ◌↔◌, ◌⊎◌, List, [], ◌∷◌, ◌++◌, map, length, Option, Some, None, IsSome}
+use Rattle.std.specs.Prelude.{◌≡◌, ◌≢◌, ℕ, ◌+◌, true, false, Bool, ◌&&◌, ◌==◌, not, ◌↔◌, List, [], ◌∷◌, ◌++◌, map, length, Some, None, IsSome}
 use Rattle.std.specs.List.{zip}
-use Rattle.std.specs.Option.{is_some}
-use Rattle.std.specs.Str.{bytes_eq}
 use Rattle.std.proofs.Common.{inl, inr, refl, sym, ap, ◌∙◌, subst, arith}
 use Rattle.std.proofs.lemmas.Bool.Decides.{eqb_tells}
 use Rattle.std.proofs.lemmas.Bool.{eq-eqb}
 use Rattle.std.proofs.lemmas.Slice.Eq.{bytes_eq-Decides}
 use Rattle.ml_term.specs.Tree.{Tree, Trees, variable, integer, atom, compound, compound_2, no_trees, tree, list_of, trees_of, arity, has, variables, variables_of, occurs, is_ground, substituted, substituted_in, renamed, firsts, place_in}
-use Rattle.ml_term.specs.Unify.{Equation, Map, step, split, bound, clash, value_of, applied, binding, solved, mgu, unifier}
+use Rattle.ml_term.specs.Unify.{Equation, Map, step, split, bound, value_of, applied, binding, solved, mgu, unifier}
 use Rattle.ml_term.specs.Keys.{are_different}
-use Rattle.ml_term.specs.Unifiers.{Unifies, under, followed_by, followed_by_result, solved_by_step, replaced_variables, variables_in}
+use Rattle.ml_term.specs.Unifiers.{under, followed_by, followed_by_result, solved_by_step, replaced_variables}
 use Rattle.ml_term.specs.Instances.{StandsIn, StandsAmong, all_ground}
 use Rattle.ml_term.proofs.Distinct.{In, in_head}
-use Rattle.ml_term.proofs.UnificationEnds.{in_either, in_left, in_right}
-use Rattle.ml_term.proofs.Substitution.{alike, alike_inside, as_it_is, goes, in_itself}
+use Rattle.ml_term.proofs.UnificationEnds.{in_either}
+use Rattle.ml_term.proofs.Substitution.{alike, alike_inside, as_it_is, goes}
 use Rattle.ml_term.proofs.EqualSides.{same}
-use Rattle.ml_term.proofs.MostGeneral.{IsMostGeneral, not_in_false}
+use Rattle.ml_term.proofs.MostGeneral.{not_in_false}
 use Rattle.ml_term.proofs.Solved.{solved_step, solved_none_left, solved_from}
-use Rattle.ml_term.proofs.OneUnifier.{is_most_general, unified_exactly, not_replaced, no_unifier, some_or_none}
+use Rattle.ml_term.proofs.OneUnifier.{is_most_general, unified_exactly, not_replaced, some_or_none}
 use Rattle.ml_term.proofs.Columns.{and_first, and_second}
 
 no_member : (ns : List ℕ) → (length ns == 0) ≡ true → (k : ℕ) → In k ns → ⊥

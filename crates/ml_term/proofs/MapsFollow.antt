@@ -1,9 +1,8 @@
 -- One map after another: what it has for a variable, and that the grouping doesn't matter.
-use Rattle.std.specs.Prelude.{◌≡◌, ℕ, true, false, Bool, ◌==◌, cond, List, [], ◌∷◌, ◌++◌, map, Option, Some, None}
-use Rattle.std.proofs.Common.{refl, sym, ap, ◌∙◌, arith, append_assoc}
-use Rattle.std.proofs.lemmas.Bool.Decides.{eqb_tells}
+use Rattle.std.specs.Prelude.{◌≡◌, ℕ, true, false, Bool, ◌==◌, cond, List, [], ◌∷◌, ◌++◌}
+use Rattle.std.proofs.Common.{refl, sym, ◌∙◌, append_assoc}
 use Rattle.ml_term.specs.Tree.{Tree, variable, substituted}
-use Rattle.ml_term.specs.Unify.{Equation, Map, value_of, applied, binding}
+use Rattle.ml_term.specs.Unify.{Equation, Map, value_of, applied}
 use Rattle.ml_term.specs.Unifiers.{under, terms_under, followed_by}
 use Rattle.ml_term.proofs.Substitution.{twice, alike, as_it_is}
 

@@ -1,19 +1,17 @@
 -- What unification gives: a most general unifier whose replaced variables are gone, or none where there is no unifier.
-use Rattle.std.specs.Prelude.{◌≡◌, ◌≢◌, ℕ, ◌≤◌, ◌<◌, true, false, Bool, ◌&&◌, ◌==◌, cond, not, nat_lt, ◌⊎◌, List, [], ◌∷◌, ◌++◌, map, Option, Some, None}
+use Rattle.std.specs.Prelude.{◌≡◌, ◌≢◌, ℕ, ◌≤◌, ◌<◌, true, false, Bool, cond, nat_lt, ◌⊎◌, List, [], ◌∷◌, ◌++◌, Option, Some, None}
 use Rattle.std.proofs.Common.{inl, inr, refl, sym, ap, ◌∙◌, subst, arith}
 use Rattle.std.proofs.lemmas.Bool.{ltb-true, ltb-false}
 use Rattle.std.proofs.lemmas.Bool.Decides.{eqb_tells}
-use Rattle.ml_term.specs.Tree.{Tree, variable, integer, atom, compound, has, variables, nodes, substituted}
-use Rattle.ml_term.specs.Unify.{Equation, Map, Step, dropped, split, bound, clash, step, value_of, applied, binding, Solving, replaced, after, turn_of, turn, variables_left, nodes_left, solved}
-use Rattle.ml_term.specs.Runs.{Next, now, ask, run}
+use Rattle.ml_term.specs.Tree.{Tree, variable, integer, atom, compound, has, variables, substituted}
+use Rattle.ml_term.specs.Unify.{Equation, Map, Step, dropped, split, bound, clash, step, value_of, binding}
 use Rattle.ml_term.specs.Keys.{are_different}
-use Rattle.ml_term.specs.Unifiers.{Unifies, under, terms_under, followed_by, replaced_variables}
-use Rattle.ml_term.proofs.Runs as R
-use Rattle.ml_term.proofs.Distinct.{In, has_append}
-use Rattle.ml_term.proofs.UnificationEnds.{in_either, in_left, in_right, equation_variables, equations_variables, equations_either, equations_after, After, Fits, step_fits, turn_falls}
-use Rattle.ml_term.proofs.Substitution.{twice, alike, comes, in_itself}
-use Rattle.ml_term.proofs.StepsSay.{Says, step_says, unifies_append, unifies_front, unifies_back, unifies_each, unifies_before, says_of_itself, stays, looked_up}
-use Rattle.ml_term.proofs.MapsFollow.{value_of_followed, followed_by_empty, followed_grouped}
+use Rattle.ml_term.specs.Unifiers.{Unifies, under, followed_by, replaced_variables}
+use Rattle.ml_term.proofs.Distinct.{In}
+use Rattle.ml_term.proofs.UnificationEnds.{in_left, in_right, equation_variables, equations_variables, equations_either, equations_after, Fits}
+use Rattle.ml_term.proofs.Substitution.{twice, alike, comes}
+use Rattle.ml_term.proofs.StepsSay.{Says, unifies_append, unifies_front, unifies_back, unifies_each, unifies_before, says_of_itself, looked_up}
+use Rattle.ml_term.proofs.MapsFollow.{value_of_followed}
 
 -- a step replaces no variable by a younger one
 abbrev pub IsOlder : Step → Type 0

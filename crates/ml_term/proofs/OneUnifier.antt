@@ -1,14 +1,12 @@
 -- The map of unification is one: it depends only on which substitutions make the equations' sides equal.
-use Rattle.std.specs.Prelude.{◌≡◌, ℕ, ◌≤◌, true, false, Bool, ◌==◌, cond, ◌↔◌, ◌⊎◌, List, [], ◌∷◌, ◌++◌, Option, Some, None, IsTrue, IsSome}
+use Rattle.std.specs.Prelude.{◌≡◌, ℕ, ◌≤◌, false, ◌↔◌, ◌⊎◌, List, [], ◌∷◌, ◌++◌, Option, Some, None, IsSome}
 use Rattle.std.specs.Option.{is_some}
 use Rattle.std.proofs.Common.{inl, inr, refl, sym, ap, ◌∙◌, subst, arith}
 use Rattle.std.proofs.lemmas.Bool.Decides.{eqb_tells}
-use Rattle.ml_term.specs.Tree.{Tree, variable, has, variables, occurs, substituted}
-use Rattle.ml_term.specs.Unify.{Equation, Map, value_of, applied, solved, mgu, unifier}
-use Rattle.ml_term.specs.Keys.{are_different}
-use Rattle.ml_term.specs.Unifiers.{Unifies, HaveTheSameUnifiers, replaced_variables, variables_in}
+use Rattle.ml_term.specs.Tree.{Tree, variable, has, variables, substituted}
+use Rattle.ml_term.specs.Unify.{Equation, Map, value_of, applied, mgu, unifier}
+use Rattle.ml_term.specs.Unifiers.{Unifies, HaveTheSameUnifiers, replaced_variables}
 use Rattle.ml_term.proofs.Distinct.{In}
-use Rattle.ml_term.proofs.UnificationEnds.{equations_variables}
 use Rattle.ml_term.proofs.Substitution.{twice, alike, as_it_is, comes}
 use Rattle.ml_term.proofs.MostGeneral.{IsMostGeneral, Gives, from_variable, not_in_false}
 use Rattle.ml_term.proofs.Solved.{solved_gives}
@@ -89,4 +87,10 @@ pub both_found : (es fs : List Equation) → HaveTheSameUnifiers es fs → IsSom
 both_found es fs same = (
   (λ h. let s = (unified_exactly es).0 h in (unified_exactly fs).1 (s.0, (same s.0).0 s.1)),
   (λ h. let s = (unified_exactly fs).0 h in (unified_exactly es).1 (s.0, (same s.0).1 s.1)),
+)
+
+pub terms_unified_exactly : (t u : Tree) → IsSome (unifier t u) ↔ ((s : ℕ → Tree) × (substituted s t ≡ substituted s u))
+terms_unified_exactly t u = (
+  (λ h. let s = (unified_exactly ((t, u) ∷ [])).0 h in (s.0, s.1.0)),
+  (λ h. (unified_exactly ((t, u) ∷ [])).1 (h.0, (h.1, tt))),
 )

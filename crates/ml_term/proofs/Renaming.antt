@@ -1,9 +1,9 @@
 -- Renamed terms: which variables they have, and that a term unifies with a renamed one exactly where both have a common instance.
-use Rattle.std.specs.Prelude.{◌≡◌, ◌≢◌, ℕ, zero, suc, ◌+◌, ◌-◌, ◌<◌, ◌≤◌, true, false, Bool, ◌||◌, ◌==◌, cond, ◌↔◌, ◌⊎◌, List, [], ◌∷◌, ◌++◌, length, IsSome}
+use Rattle.std.specs.Prelude.{◌≡◌, ◌≢◌, ℕ, suc, ◌+◌, ◌-◌, ◌<◌, ◌≤◌, false, cond, List, [], ◌∷◌, length, IsSome}
 use Rattle.std.proofs.Common.{inl, inr, refl, sym, ap, ◌∙◌, subst, arith, get_or}
 use Rattle.std.proofs.lemmas.Bool.Decides.{eqb_tells}
-use Rattle.ml_term.specs.Tree.{Tree, variable, has, variables, occurs, substituted, renamed, firsts, without, place_in, width}
-use Rattle.ml_term.specs.Unify.{unifier, value_of, mgu}
+use Rattle.ml_term.specs.Tree.{Tree, variable, has, variables, substituted, renamed, firsts, without, place_in, width}
+use Rattle.ml_term.specs.Unify.{unifier}
 use Rattle.ml_term.specs.Instances.{HaveACommonInstance, AreApart}
 use Rattle.ml_term.proofs.Distinct.{In}
 use Rattle.ml_term.proofs.Substitution.{twice, alike, comes, goes, in_itself}

@@ -1,9 +1,9 @@
 -- Unification by its rules, what it gives, and how it goes in parts.
-use Rattle.std.specs.Prelude.{◌≡◌, ℕ, ◌+◌, true, false, ◌⊎◌, List, [], ◌∷◌, ◌++◌, map, Option, Some, None}
-use Rattle.std.proofs.Common.{inl, inr, refl, sym, ap, ◌∙◌, subst, arith, append_assoc}
-use Rattle.ml_term.specs.Tree.{Tree, variable, nodes, substituted}
-use Rattle.ml_term.specs.Unify.{Equation, Map, Step, dropped, split, bound, clash, step, value_of, applied, binding, Solving, replaced, after, turn_of, turn, variables_left, nodes_left, solved}
-use Rattle.ml_term.specs.Unifiers.{Unifies, under, terms_under, followed_by, followed_by_result, solved_after, solved_by_step}
+use Rattle.std.specs.Prelude.{◌≡◌, ℕ, ◌+◌, List, [], ◌∷◌, ◌++◌, Option, Some, None}
+use Rattle.std.proofs.Common.{inl, refl, sym, ap, ◌∙◌, arith, append_assoc}
+use Rattle.ml_term.specs.Tree.{variable, nodes}
+use Rattle.ml_term.specs.Unify.{Equation, Map, Step, dropped, split, bound, clash, step, binding, Solving, after, turn_of, solved}
+use Rattle.ml_term.specs.Unifiers.{under, followed_by, followed_by_result, solved_after, solved_by_step}
 use Rattle.ml_term.specs.Falling.{HoldsAfter}
 use Rattle.ml_term.proofs.UnificationEnds.{equation_variables, Fits, step_fits, in_one_only, by_turns, solved_goes, solved_over}
 use Rattle.ml_term.proofs.StepsSay.{Says, step_says, unifies_each, unifies_append}

@@ -1,15 +1,14 @@
 -- What each step of unification says of the substitutions that make its two sides equal.
-use Rattle.std.specs.Prelude.{◌≡◌, ℕ, ◌+◌, ◌≤◌, true, false, Bool, ◌&&◌, ◌==◌, cond, nat_lt, ◌⊎◌, List, [], ◌∷◌, ◌++◌, map}
+use Rattle.std.specs.Prelude.{◌≡◌, ℕ, true, false, Bool, ◌&&◌, ◌==◌, cond, nat_lt, List, [], ◌∷◌, ◌++◌}
 use Rattle.std.specs.List.{zip}
 use Rattle.std.specs.Ordering.{int_eq}
 use Rattle.std.specs.Str.{bytes_eq}
 use Rattle.std.proofs.Common.{inl, inr, refl, sym, ap, ◌∙◌, arith}
 use Rattle.std.proofs.lemmas.Bool.Decides.{eqb_tells, Decides-int_eq}
 use Rattle.std.proofs.lemmas.Slice.Eq.{bytes_eq-Decides}
-use Rattle.ml_term.specs.Tree.{Tree, Trees, variable, integer, atom, compound, no_trees, tree, has, variables, variables_of, nodes, nodes_of, list_of, arity, occurs, substituted, substituted_in}
-use Rattle.ml_term.specs.Unify.{Equation, Map, Step, dropped, split, bound, clash, step, value_of, applied, binding}
+use Rattle.ml_term.specs.Tree.{Tree, Trees, variable, integer, atom, compound, no_trees, tree, has, variables, nodes, list_of, arity, occurs, substituted, substituted_in}
+use Rattle.ml_term.specs.Unify.{Equation, Step, dropped, split, bound, clash, step, value_of, applied, binding}
 use Rattle.ml_term.specs.Unifiers.{Unifies, under}
-use Rattle.ml_term.proofs.Distinct.{In}
 use Rattle.ml_term.proofs.Substitution.{twice, alike, as_it_is, inside_of}
 
 pub unifies_append : (s : ℕ → Tree) (us es : List Equation) → Unifies s us → Unifies s es → Unifies s (us ++ es)

@@ -1,13 +1,13 @@
 -- Each turn of unification lowers the number of different variables, or keeps it and lowers the size.
-use Rattle.std.specs.Prelude.{◌≡◌, ◌≢◌, ℕ, zero, suc, ◌+◌, ◌<◌, ◌≤◌, true, false, Bool, ◌||◌, ◌&&◌, ◌==◌, cond, if◌then◌else◌, nat_lt, ◌⊎◌, List, [], ◌∷◌, ◌++◌, map, Option, Some, None}
+use Rattle.std.specs.Prelude.{◌≡◌, ◌≢◌, ℕ, ◌+◌, ◌<◌, ◌≤◌, true, false, Bool, ◌||◌, ◌&&◌, ◌==◌, cond, nat_lt, ◌⊎◌, List, [], ◌∷◌, ◌++◌, map, Option, None}
 use Rattle.std.proofs.Common.{inl, inr, refl, sym, ap, ◌∙◌, subst, arith}
 use Rattle.std.proofs.lemmas.Bool.Decides.{eqb_tells}
 use Rattle.std.specs.List.{flat_map, zip}
 use Rattle.std.specs.Ordering.{int_eq}
 use Rattle.std.specs.Str.{bytes_eq}
-use Rattle.ml_term.specs.Tree.{Tree, Trees, variable, integer, atom, compound, no_trees, tree, has, variables, variables_of, nodes, nodes_of, list_of, arity, occurs, substituted, substituted_in}
-use Rattle.ml_term.specs.Unify.{Equation, Map, Step, dropped, split, bound, clash, step, value_of, applied, binding, Solving, replaced, after, turn_of, turn, distinct, variables_left, nodes_in, nodes_left, solved}
-use Rattle.ml_term.specs.Runs.{Next, now, ask, run}
+use Rattle.ml_term.specs.Tree.{Tree, Trees, variable, integer, atom, compound, no_trees, tree, has, variables, variables_of, nodes, nodes_of, list_of, arity, occurs, substituted_in}
+use Rattle.ml_term.specs.Unify.{Equation, Map, Step, dropped, split, bound, clash, step, value_of, applied, binding, Solving, replaced, after, turn_of, turn, variables_left, nodes_in, nodes_left, solved}
+use Rattle.ml_term.specs.Runs.{Next, now}
 use Rattle.ml_term.specs.Falling.{Falls, HoldsAfter}
 use Rattle.ml_term.proofs.Runs as R
 use Rattle.ml_term.proofs.Distinct.{In, has_append, distinct_within, distinct_below}

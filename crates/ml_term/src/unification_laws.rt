@@ -1,7 +1,7 @@
 //! Laws of runs and of unification. The functions do nothing: their contracts are the laws, for the layers above and for the reader.
 ghost use Rattle.std.specs.Prelude.{◌≡◌, ℕ, ◌+◌, ◌<◌, ◌≤◌, ◌↔◌, ◌⊎◌, Bool, IsTrue, List, [], ◌∷◌, ◌++◌, IsSome};
 ghost use Rattle.std.proofs.Common.{inl, inr};
-ghost use Rattle.ml_term.specs.Tree.{Tree, variable, has, occurs, substituted, renamed, width};
+ghost use Rattle.ml_term.specs.Tree.{Tree, variable, has, occurs, variables, nodes, substituted, renamed, width, firsts, counts_from, is_numbered};
 ghost use Rattle.ml_term.specs.Instances.{HaveACommonInstance, AreApart};
 ghost use Rattle.ml_term.specs.Runs.{Next, now, ask, on, run};
 ghost use Rattle.ml_term.specs.Falling.{AlwaysFalls, HoldsAfter};
@@ -41,7 +41,7 @@ pub fn unification_goes_by_its_rules()
 
 /// What unification gives is a most general unifier.
 /// `unifies`: the map makes the sides of each equation equal.
-/// `general`: each substitution that makes the sides equal factors through the map. Indeed the map changes nothing before it.
+/// `general`: each substitution that makes the sides equal factors through the map: it gives the same, whether the map is applied first or not.
 /// `idempotent`: the map applied twice is the map applied once.
 pub fn unification_is_most_general()
     ensures unifies { (es : List Equation) (m : Map) → mgu es ≡ Some m → Unifies (value_of m) es }
@@ -50,9 +50,10 @@ pub fn unification_is_most_general()
     ensures idempotent { (es : List Equation) (m : Map) → mgu es ≡ Some m → (t : Tree) → applied m (applied m t) ≡ applied m t }
 {}
 
-/// Unification gives none exactly where no substitution makes the sides of the equations equal.
+/// Unification gives none exactly where no substitution makes the sides of the equations equal, and for two terms where none makes them equal.
 pub fn unification_finds_each_unifier()
-    ensures { (es : List Equation) → IsSome (mgu es) ↔ ((s : ℕ → Tree) × Unifies s es) }
+    ensures equations { (es : List Equation) → IsSome (mgu es) ↔ ((s : ℕ → Tree) × Unifies s es) }
+    ensures terms { (t u : Tree) → IsSome (unifier t u) ↔ ((s : ℕ → Tree) × (substituted s t ≡ substituted s u)) }
 {}
 
 /// What a map of unification replaces, and what it leaves.
@@ -91,12 +92,28 @@ pub fn unification_goes_in_parts()
 /// `apart`: where no variable stands in both, a unifier is found exactly if both terms have a common instance, whatever numbers were taken.
 /// `anyhow`: where one is found, they have a common instance, even if the two share variables.
 pub fn unification_with_a_renamed_term()
-    ensures range {
-        (next : ℕ) (t : Tree) (n : ℕ) → IsTrue (occurs n (renamed next t)) → (next ≤ n) × (n < next + width t)
-    }
-    ensures apart {
-        (next : ℕ) (t u : Tree) → AreApart t (renamed next u) → IsSome (unifier t (renamed next u)) ↔ HaveACommonInstance t u
-    }
+    ensures range { (next : ℕ) (t : Tree) (n : ℕ) → IsTrue (occurs n (renamed next t)) → (next ≤ n) × (n < next + width t) }
+    ensures apart { (next : ℕ) (t u : Tree) → AreApart t (renamed next u) → IsSome (unifier t (renamed next u)) ↔ HaveACommonInstance t u }
     ensures anyhow { (next : ℕ) (t u : Tree) → IsSome (unifier t (renamed next u)) → HaveACommonInstance t u }
-{
+{}
+
+/// A term numbered anew, as a stored clause is from 0 and an entered one from the next number.
+/// `counts`: by first place its variables are the given number and those that follow it. `again`: what it was numbered before doesn't matter.
+/// `stays`: a term that is numbered from 0 stays as it is. `width`, `nodes`: there are as many different variables, and as many nodes.
+pub fn renaming_numbers_anew()
+    ensures counts { (next : ℕ) (t : Tree) → IsTrue (counts_from next (firsts (variables (renamed next t)))) }
+    ensures again { (next before : ℕ) (t : Tree) → renamed next (renamed before t) ≡ renamed next t }
+    ensures stays { (t : Tree) → IsTrue (is_numbered t) → renamed 0 t ≡ t }
+    ensures width { (next : ℕ) (t : Tree) → width (renamed next t) ≡ width t }
+    ensures nodes { (next : ℕ) (t : Tree) → nodes (renamed next t) ≡ nodes t }
+{}
+
+#[cfg(test)]
+mod tests {
+    use super::*;
+
+    #[test]
+    fn runs_of_any_types_go_by_turns() {
+        runs_go_by_turns::<u64, bool>();
+    }
 }

@@ -1,0 +1,9 @@
+pub mod Lists
+pub mod WordBits
+pub mod WordOrder
+pub mod Packed
+pub mod PackedOrder
+pub mod OrderLaws
+pub mod CommonLength
+pub mod Bytes
+pub mod Stored

@@ -14,3 +14,6 @@ mod words;
 pub use line::line_of;
 pub use run::serial;
 pub use status::Status;
+
+#[cfg(test)]
+mod tests;

@@ -2,6 +2,7 @@
 //! It stands on ml_run, which does all of the work, and on ml_outside for the real shelf and sink. No layer stands above it.
 //! Where the run didn't end well, its line goes to standard error, and the program ends with the status's number.
 #![tactic(auto)]
+
 ghost use Rattle.std.specs.Prelude.{length};
 ghost use Rattle.ml_run.specs.Status.{NamesWord};
 

@@ -3,19 +3,20 @@
 //! Where the run didn't end well, its line goes to standard error, and the program ends with the status's number.
 #![tactic(auto)]
 
-ghost use Rattle.std.specs.Prelude.{length};
+ghost use Rattle.std.specs.Prelude.{length, IfErr};
 ghost use Rattle.ml_run.specs.Status.{NamesWord};
 
 use ml_outside::{DirShelf, OutSink};
 use ml_run::{Status, line_of, serial};
 use std::alloc::AllocError;
 use std::env;
-use std::io::Write;
+use std::io::{ErrorKind, Write};
 use std::process::ExitCode;
 
 fn main(rt: HostRuntime) -> ExitCode {
-    let Some(words) = words_of(&rt) else {
-        return ended(&rt, &Status::BadWords, &[]);
+    let words = match words_of(&rt) {
+        Ok(words) => words,
+        Err(status) => return ended(&rt, &status, &[]),
     };
     let Ok(words) = texts_of(&rt, &words) else {
         return ended(&rt, &Status::OutOfMemory, &[]);
@@ -26,14 +27,22 @@ fn main(rt: HostRuntime) -> ExitCode {
     ended(&rt, &status, &words)
 }
 
-// The words after the program's name, if all are text.
-fn words_of(rt: &HostRuntime) -> Option<Vec<String>> {
-    let args = env::args(rt).ok()?;
+// The words after the program's name. Where one isn't text, the words are bad.
+fn words_of(rt: &HostRuntime) -> Result<Vec<String>, Status>
+    ensures { IfErr result (NamesWord 0) }
+{
+    let args = match env::args(rt) {
+        Ok(args) => args,
+        Err(e) if e.kind() == ErrorKind::OutOfMemory => return Err(Status::OutOfMemory),
+        Err(_) => return Err(Status::BadWords),
+    };
     let mut words = Vec::new(rt.alloc());
     for word in args.skip(1) {
-        words.push(word).ok()?;
+        if words.push(word).is_err() {
+            return Err(Status::OutOfMemory);
+        }
     }
-    Some(words)
+    Ok(words)
 }
 
 fn texts_of<'a>(rt: &HostRuntime, words: &'a [String]) -> Result<Vec<&'a str>, AllocError> {

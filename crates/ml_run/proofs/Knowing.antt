@@ -87,4 +87,4 @@ known_is f t e =
     let o = is_other f e in
     let no_plain : builtin f (t ∷ []) ≡ None = ap (with (λ (p : Tree → Bool). tested (p t))) o.no_test in
     let same : bytes_eq f f ≡ true = (bytes_eq-Decides f f).1 refl in
-    rw (no_plain, no_store (program_of f) f t o, same, same) refl
+    rw (no_plain, no_store (program_of f) f t o, same) refl

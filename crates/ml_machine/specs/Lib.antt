@@ -1,0 +1,5 @@
+pub mod Asking
+pub mod Leads
+pub mod Expand
+pub mod Asked
+pub mod Weights

@@ -1,0 +1,6 @@
+//! Laws.
+ghost use Rattle.std.specs.Prelude.{◌≡◌};
+
+pub fn nothing()
+    ensures { Unit }
+{}

@@ -3,3 +3,5 @@ pub mod Leads
 pub mod Expand
 pub mod Asked
 pub mod Weights
+pub mod RowWords
+pub mod AskingRows

@@ -1,2 +1,4 @@
 pub mod Computed
 pub mod Heights
+pub mod Fitting
+pub mod Out

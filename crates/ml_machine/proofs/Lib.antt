@@ -4,4 +4,8 @@ pub mod Fitting
 pub mod Out
 pub mod KnownGoals
 pub mod Unifying
+pub mod Meeting
 pub mod Turns
+pub mod Stays
+pub mod Law
+pub mod Answers

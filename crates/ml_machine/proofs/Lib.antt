@@ -9,3 +9,5 @@ pub mod Turns
 pub mod Stays
 pub mod Law
 pub mod Answers
+pub mod Lightness
+pub mod Lasts

@@ -11,3 +11,4 @@ pub mod Law
 pub mod Answers
 pub mod Lightness
 pub mod Lasts
+pub mod Allowed

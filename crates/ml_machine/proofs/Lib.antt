@@ -12,3 +12,4 @@ pub mod Answers
 pub mod Lightness
 pub mod Lasts
 pub mod Allowed
+pub mod Asks

@@ -13,3 +13,4 @@ pub mod Lightness
 pub mod Lasts
 pub mod Allowed
 pub mod Asks
+pub mod Validity

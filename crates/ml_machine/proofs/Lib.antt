@@ -14,3 +14,4 @@ pub mod Lasts
 pub mod Allowed
 pub mod Asks
 pub mod Validity
+pub mod Ends

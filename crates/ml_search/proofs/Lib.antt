@@ -7,3 +7,10 @@ pub mod MoreInferences
 pub mod Beginnings
 pub mod Outlines
 pub mod Progressing
+pub mod Committing
+pub mod Lines
+pub mod OneLine
+pub mod Decimals
+pub mod Showing
+pub mod Quiet
+pub mod Orders

@@ -7,9 +7,9 @@ use Rattle.ml_term.specs.Runs.{Next}
 use Rattle.ml_term.specs.Falling.{HoldsNext, HoldsAfter}
 use Rattle.ml_search.specs.Program.{Program}
 use Rattle.ml_search.specs.Changes.{Named, alter}
-use Rattle.ml_search.specs.Table.{Branch, End, finished, ball, exhausted, Go, answer, over, leaves, cuts, tries, Act, plainly, uses, calls, alters, finds, gathered, inner, act}
+use Rattle.ml_search.specs.Table.{Branch, End, finished, ball, exhausted, Course, answer, over, leaves, cuts, tries, Act, plainly, uses, calls, alters, finds, gathered, inner, act}
 use Rattle.ml_search.specs.Known.{known}
-use Rattle.ml_search.specs.Search.{State, Outcome, Turn, last, go, chosen, using_one, does, branch_turn, searched, settled, led_to}
+use Rattle.ml_search.specs.Search.{State, Outcome, Turn, last_of, course_turn, chosen, using_one, act_turn, branch_turn, searched, settled, led_to}
 use Rattle.ml_search.specs.Words.{more_left, with_more_left, ran_out}
 use Rattle.ml_search.proofs.Turns.{search_steps, by_turns}
 
@@ -18,11 +18,11 @@ abbrev more_turn : ℕ → Turn → Turn
 more_turn k (inl o) = inl (with_more_left k o)
 more_turn k (inr s) = inr (more_left k s)
 
-go_more : (k : ℕ) (a : Go Named) (r : List (Branch Named)) (s : State) → go a r (more_left k s) ≡ more_turn k (go a r s)
+go_more : (k : ℕ) (a : Course Named) (r : List (Branch Named)) (s : State) → course_turn a r (more_left k s) ≡ more_turn k (course_turn a r s)
 go_more k (answer ts) r s = refl
 go_more k (over e) r s = refl
 go_more k (leaves bs) r s = refl
-go_more k (cuts h a) r s = go_more k a (last h r) s
+go_more k (cuts h a) r s = go_more k a (last_of h r) s
 go_more k (tries t b cs) r s = refl
 
 module _ (program : Program) (k : ℕ) where
@@ -45,9 +45,9 @@ module _ (program : Program) (k : ℕ) where
 
   -- what the search of a goal by itself leads to
   abbrev behind : Tree → Branch Named → List (Branch Named) → List (List Tree) → Outcome → Turn
-  behind l b r found q = go (gathered l b q.end (flat_map (λ ts. ts) q.found)) r (record { branches = r; found = found; lists = q.lists; left = q.left })
+  behind l b r found q = course_turn (gathered l b q.end (flat_map (λ ts. ts) q.found)) r (record { branches = r; found = found; lists = q.lists; left = q.left })
 
-  out_goes_on : (e : End) (l : Tree) (b : Branch Named) (ts : List Tree) (r : List (Branch Named)) (s : State) (o : Outcome) → ran_out e ≡ true → HoldsNext Same (go (gathered l b e ts) r s) o → ran_out o.end ≡ true
+  out_goes_on : (e : End) (l : Tree) (b : Branch Named) (ts : List Tree) (r : List (Branch Named)) (s : State) (o : Outcome) → ran_out e ≡ true → HoldsNext Same (course_turn (gathered l b e ts) r s) o → ran_out o.end ≡ true
   out_goes_on finished l b ts r s o d h = grind (arith, d)
   out_goes_on (ball t) l b ts r s o d h = grind (arith, d)
   out_goes_on exhausted l b ts r s o d h = sym (ap (λ q. ran_out q.end) h)
@@ -63,14 +63,14 @@ module _ (program : Program) (k : ℕ) where
       ∙ ap (settled (searched program)) (go_more k (gathered l b q.end (flat_map (λ ts. ts) q.found)) r (record { branches = r; found = found; lists = q.lists; left = q.left }))
       ∙ settled_more (behind l b r found q) o g n
 
-  does_more : (a : Act Named) (r : List (Branch Named)) (s : State) (o : Outcome) → HoldsAfter Same (does program a r s) o → ran_out o.end ≡ false → led_to (searched program) (does program a r (more_left k s)) ≡ with_more_left k o
-  does_more (plainly a) r s o h n = ap (settled (searched program)) (go_more k a r s) ∙ settled_more (go a r s) o h n
-  does_more (uses a) r s o h n = using_more s.left s (λ v. does program a r v) o h n (λ v g. does_more a r v o g n)
+  does_more : (a : Act Named) (r : List (Branch Named)) (s : State) (o : Outcome) → HoldsAfter Same (act_turn program a r s) o → ran_out o.end ≡ false → led_to (searched program) (act_turn program a r (more_left k s)) ≡ with_more_left k o
+  does_more (plainly a) r s o h n = ap (settled (searched program)) (go_more k a r s) ∙ settled_more (course_turn a r s) o h n
+  does_more (uses a) r s o h n = using_more s.left s (λ v. act_turn program a r v) o h n (λ v g. does_more a r v o g n)
   does_more (calls how d t b) r s o h n = h n
   does_more (alters c x y z) r s o h n =
       let u : State = record s { lists = (alter program.decls c s.lists).1 } in
-      let a : Go Named = chosen (alter program.decls c s.lists).0 x y z in
-      ap (settled (searched program)) (go_more k a r u) ∙ settled_more (go a r u) o h n
+      let a : Course Named = chosen (alter program.decls c s.lists).0 x y z in
+      ap (settled (searched program)) (go_more k a r u) ∙ settled_more (course_turn a r u) o h n
   does_more (finds x g l b) r s o h n =
       found_more l b r s.found (record { branches = inner x g b.next ∷ []; found = []; lists = s.lists; left = s.left }) h.0 o h.1.0 h.1.1 n
 

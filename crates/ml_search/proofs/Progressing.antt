@@ -4,7 +4,7 @@ use Rattle.std.proofs.Common.{refl, ap, sym, ◌∙◌, arith}
 use Rattle.ml_term.specs.declared.declaration.Decl.{Decl}
 use Rattle.ml_search.specs.Limits.{most_changes}
 use Rattle.ml_search.specs.Db.{mine, Db, Item}
-use Rattle.ml_search.specs.Changes.{Change, Lists, Named, Alter, puts, takes, puts_first, puts_last, Effect, changed, unchanged, altered, would_change, counted, alter}
+use Rattle.ml_search.specs.Changes.{Change, Lists, Named, Alter, puts, takes, puts_first, puts_last, Effect, changed, unchanged, altered, would_change, change_of, alter}
 use Rattle.ml_search.specs.Changes as C
 use Rattle.ml_search.specs.Operations.{Operation, opens, next, insert, delete, assertz, asserta, delete_at, Reply, absent, full, Log}
 use Rattle.ml_search.specs.Told.{is_change}
@@ -51,10 +51,10 @@ module _ (decls : List Decl) where
   by_tests : (full_or_not changes_or_not : Bool) (c : Alter Named) (s : Store)
       → (let x : Effect × Lists =
       cond full_or_not
-      (cond changes_or_not (changed, record { db = altered decls (record { place = mine; change = length s.lists.made }) c s.lists.db; made = s.lists.made ++ counted decls c s.lists.db ∷ [] }) (unchanged, s.lists))
+      (cond changes_or_not (changed, record { db = altered decls (record { place = mine; change = length s.lists.made }) c s.lists.db; made = s.lists.made ++ change_of decls c s.lists.db ∷ [] }) (unchanged, s.lists))
       (C.full, s.lists)
       in changed_once decls mine (is_changed x.0) (Some c) (progress_of s) ≡ progress_of (record s { lists = x.1 }))
-  by_tests true true c s = ap (λ n. record { db = altered decls (record { place = mine; change = length s.lists.made }) c s.lists.db; cursors = s.cursors; changes = n }) (sym (one_more s.lists.made (counted decls c s.lists.db)))
+  by_tests true true c s = ap (λ n. record { db = altered decls (record { place = mine; change = length s.lists.made }) c s.lists.db; cursors = s.cursors; changes = n }) (sym (one_more s.lists.made (change_of decls c s.lists.db)))
   by_tests true false c s = refl
   by_tests false b c s = refl
 

@@ -26,8 +26,8 @@ abbrev pub tested : Bool → ℕ → Did
 tested b next = cond b (binds [] next) fails
 
 -- a raised term, which is replaced where it is too large
-abbrev pub refused : Tree → Did
-refused t = raises (kept_small t)
+abbrev pub raising : Tree → Did
+raising t = raises (kept_small t)
 
 -- equations that are to be solved
 abbrev pub unified : List Equation → ℕ → Did
@@ -40,7 +40,7 @@ unified es next = by (mgu es)
 -- what is done where no check applies
 abbrev pub unless_refused : Option Tree → Did → Did
 unless_refused None d = d
-unless_refused (Some t) d = refused t
+unless_refused (Some t) d = raising t
 
 -- the tests of one term
 abbrev pub type_tests : List (List ℕ × (Tree → Bool))
@@ -79,13 +79,13 @@ value_tests =
 
 -- two values that are compared; the left one's fault comes first
 abbrev pub compared : (Ordering → Bool) → Value → Value → ℕ → Did
-compared p (fault e) w next = refused e
-compared p (value x) (fault e) next = refused e
+compared p (fault e) w next = raising e
+compared p (value x) (fault e) next = raising e
 compared p (value x) (value y) next = tested (p (int_cmp x y)) next
 
 -- `is/2`
 abbrev pub assigned : Tree → Value → ℕ → Did
-assigned t (fault e) next = refused e
+assigned t (fault e) next = raising e
 assigned t (value x) next = unified ((t, integer x) ∷ []) next
 
 -- the name of a term by which `functor/3` and `=../2` know it: a compound's name as an atom, and every other term itself

@@ -87,16 +87,16 @@ module _ (decls : List Decl) where
   would_change (drops x) db = is_some (with_id x.id (items db x.list))
 
   -- the change as it is counted
-  abbrev pub counted : Alter Named → Db → Change
-  counted (puts t) db = record { what = Put; term = t }
-  counted (takes t) db = record { what = Taken; term = t }
-  counted (puts_first c) db = record { what = First; term = c }
-  counted (puts_last c) db = record { what = Last; term = c }
-  counted (drops x) db = record { what = Dropped; term = option_map_or (λ i. i.term) (with_id x.id (items db x.list)) true_body }
+  abbrev pub change_of : Alter Named → Db → Change
+  change_of (puts t) db = record { what = Put; term = t }
+  change_of (takes t) db = record { what = Taken; term = t }
+  change_of (puts_first c) db = record { what = First; term = c }
+  change_of (puts_last c) db = record { what = Last; term = c }
+  change_of (drops x) db = record { what = Dropped; term = option_map_or (λ i. i.term) (with_id x.id (items db x.list)) true_body }
 
   -- A change by a session that has made some. What it puts is its own, with the number of the changes before as its number.
   abbrev pub alter : Alter Named → Lists → Effect × Lists
   alter c s =
       cond (nat_lt (length s.made) most_changes)
-      (cond (would_change c s.db) (changed, record { db = altered (record { place = mine; change = length s.made }) c s.db; made = s.made ++ counted c s.db ∷ [] }) (unchanged, s))
+      (cond (would_change c s.db) (changed, record { db = altered (record { place = mine; change = length s.made }) c s.db; made = s.made ++ change_of c s.db ∷ [] }) (unchanged, s))
       (full, s)

@@ -161,10 +161,11 @@ is_db [] (is ∷ db) = false
 is_db (d ∷ ds) [] = false
 is_db (d ∷ ds) (is ∷ db) = is_list_of d is && is_db ds db
 
--- whether no item is one that a session still has for itself
+-- whether a place is that of an entry
+abbrev pub is_placed : Place → Bool
+is_placed (at n) = true
+is_placed mine = false
+
+-- whether each item of the lists was committed by an entry, or loaded
 abbrev pub is_committed : Db → Bool
-is_committed db = list_all (λ is. list_all (λ i. is_placed i.id.place) is) db
-  where
-    is_placed : Place → Bool
-    is_placed (at n) = true
-    is_placed mine = false
+is_committed = list_all (list_all (λ i. is_placed i.id.place))

@@ -15,7 +15,7 @@ use Rattle.ml_search.specs.Errors.{instantiation_error, type_error, existence_er
 use Rattle.ml_search.specs.Bodies.{is_callable}
 use Rattle.ml_search.specs.Builtins.{builtin, is_plain, with, or_else}
 use Rattle.ml_search.specs.Changes.{list_for}
-use Rattle.ml_search.specs.Table.{as_tuple, as_clause, Known, plain, declared, retracting, defined, refused, inserting, deleting, asserting_first, asserting_last, unknown, How}
+use Rattle.ml_search.specs.Table.{as_tuple, as_clause, Known, plain, declared, retracting, defined, refused, inserting, deleting, asserting_first, asserting_last, unknown, Usage}
 
 -- the control constructs and control built-ins
 abbrev pub control_names : List (List ℕ × ℕ)
@@ -85,25 +85,22 @@ module _ (program : Program) where
 
   -- the checks of `assertz(C)` and `asserta(C)`: those of `retract(C)`, and then two more
   abbrev pub assert_fault : Tree → Tree → Option Tree
-  assert_fault h b = then_more (retract_fault h b)
-    where
-      then_more : Option Tree → Option Tree
-      then_more (Some t) = Some t
-      then_more None = first_fault ((not (is_callable b), type_error (codes "callable") b) ∷ (is_over_bytes (clause_term h b), resource_error (codes "item")) ∷ [])
+  assert_fault h b =
+      or_else (retract_fault h b) (first_fault ((not (is_callable b), type_error (codes "callable") b) ∷ (is_over_bytes (clause_term h b), resource_error (codes "item")) ∷ []))
 
   -- what a store built-in is where no check applies
-  abbrev pub unless_refused : Option Tree → Known → Known
-  unless_refused None k = k
-  unless_refused (Some t) k = refused t
+  abbrev pub known_unless : Option Tree → Known → Known
+  known_unless None k = k
+  known_unless (Some t) k = refused t
 
   -- the store built-ins; a clause that is put has its variables numbered anew, from 0 by first place
   abbrev pub store_built_in : List (List ℕ × (Tree → Known))
   store_built_in =
-      (codes "insert_tuple", λ t. unless_refused (tuple_fault t) (inserting t))
-      ∷ (codes "delete_tuple", λ t. unless_refused (tuple_fault t) (deleting t))
-      ∷ (codes "asserta", λ c. unless_refused (assert_fault (given_head c) (given_body c)) (asserting_first (renamed 0 (clause_term (given_head c) (given_body c)))))
-      ∷ (codes "assertz", λ c. unless_refused (assert_fault (given_head c) (given_body c)) (asserting_last (renamed 0 (clause_term (given_head c) (given_body c)))))
-      ∷ (codes "retract", λ c. unless_refused (retract_fault (given_head c) (given_body c)) (retracting (list_for program.decls (given_head c)) (given_head c) (given_body c)))
+      (codes "insert_tuple", λ t. known_unless (tuple_fault t) (inserting t))
+      ∷ (codes "delete_tuple", λ t. known_unless (tuple_fault t) (deleting t))
+      ∷ (codes "asserta", λ c. known_unless (assert_fault (given_head c) (given_body c)) (asserting_first (renamed 0 (clause_term (given_head c) (given_body c)))))
+      ∷ (codes "assertz", λ c. known_unless (assert_fault (given_head c) (given_body c)) (asserting_last (renamed 0 (clause_term (given_head c) (given_body c)))))
+      ∷ (codes "retract", λ c. known_unless (retract_fault (given_head c) (given_body c)) (retracting (list_for program.decls (given_head c)) (given_head c) (given_body c)))
       ∷ []
 
   abbrev pub store_known : List ℕ → List Tree → Option Known
@@ -111,7 +108,7 @@ module _ (program : Program) where
   store_known f ts = None
 
   -- how the items of a declaration are called
-  abbrev pub called_as : Kind → How
+  abbrev pub called_as : Kind → Usage
   called_as Relation = as_tuple
   called_as Clauses = as_clause
 

@@ -14,11 +14,12 @@ pub mod Known
 pub mod Search
 pub mod Session
 pub mod History
+pub mod Endings
 pub mod Printed
 pub mod Operations
 pub mod Told
 pub mod Replay
-pub mod Valid
+pub mod WellFormed
 pub mod Seen
 pub mod Words
 pub mod Loading

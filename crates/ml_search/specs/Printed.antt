@@ -1,6 +1,6 @@
 -- The bytes of a history, and the order of sessions that bytes show. The code writes a session's block at a time.
-use Rattle.std.specs.Prelude.{ℕ, ◌+◌, ◌-◌, ◌*◌, ◌==◌, nat_le, Bool, true, false, ◌&&◌, ◌||◌, List, [], ◌∷◌, ◌++◌, length, take, drop, Option, Some, None, cond, codes}
-use Rattle.std.specs.List.{flat_map, filter_map, take_while, slice_split}
+use Rattle.std.specs.Prelude.{ℕ, ◌+◌, ◌-◌, ◌*◌, ◌==◌, nat_le, Bool, true, false, ◌&&◌, ◌||◌, List, [], ◌∷◌, ◌++◌, length, take, drop, Option, Some, None, cond, codes, option_map, option_and_then}
+use Rattle.std.specs.List.{flat_map, filter_map, take_while}
 use Rattle.std.specs.Str.{bytes_eq}
 use Rattle.ml_term.specs.Decimal.{decimal_text}
 use Rattle.ml_term.specs.Text.{is_digit}
@@ -30,12 +30,15 @@ block e = by e.ran
 abbrev pub printed : List Entry → List ℕ
 printed = flat_map block
 
+-- a byte before the first of some lines; where no line follows, it stands in none
+abbrev pub onto_first : ℕ → List (List ℕ) → List (List ℕ)
+onto_first b [] = []
+onto_first b (l ∷ ls) = (b ∷ l) ∷ ls
+
 -- the lines of some bytes, without their line feeds: bytes after the last line feed are no line
 abbrev pub lines_of : List ℕ → List (List ℕ)
-lines_of bs = but_last (slice_split (λ b. b == 10) bs)
-  where
-    but_last : List (List ℕ) → List (List ℕ)
-    but_last ls = take (length ls - 1) ls
+lines_of [] = []
+lines_of (b ∷ bs) = cond (b == 10) ([] ∷ lines_of bs) (onto_first b (lines_of bs))
 
 -- what stands behind a text that begins some bytes
 abbrev pub behind : List ℕ → List ℕ → Option (List ℕ)
@@ -54,31 +57,25 @@ abbrev pub is_number : List ℕ → Bool
 is_number [] = false
 is_number (b ∷ bs) = nat_le 49 b
 
+-- whether some bytes are the number of a goal
+abbrev pub is_goal_number : Option (List ℕ) → Bool
+is_goal_number None = false
+is_goal_number (Some j) = is_number j && bytes_eq (digits j) j
+
 -- what an ending's text says: whether it is that of an entry out of memory; nothing where it is the text of no ending
 abbrev pub shown_ending : List ℕ → Option Bool
 shown_ending bs =
     cond (bytes_eq bs (codes "out of memory")) (Some true)
-    (cond (bytes_eq bs (codes "committed") || bytes_eq bs (codes "aborted") || bytes_eq bs (codes "refused") || is_failure (behind (codes "failed at goal ") bs)) (Some false) None)
-  where
-    is_failure : Option (List ℕ) → Bool
-    is_failure None = false
-    is_failure (Some j) = is_number j && bytes_eq (digits j) j
+    (cond (bytes_eq bs (codes "committed") || bytes_eq bs (codes "aborted") || bytes_eq bs (codes "refused") || is_goal_number (behind (codes "failed at goal ") bs)) (Some false) None)
+
+-- a number and an ending, with a space between them
+abbrev pub shown_entry : List ℕ → Option (ℕ × Bool)
+shown_entry bs =
+    cond (is_number (digits bs)) (option_map (λ out_of_memory. (number_from 0 (digits bs), out_of_memory)) (option_and_then shown_ending (behind (codes " ") (drop (length (digits bs)) bs)))) None
 
 -- the session that a line shows: its number, and whether it was out of memory
 abbrev pub shown_session : List ℕ → Option (ℕ × Bool)
-shown_session l = numbered (behind (codes "session ") l)
-  where
-    with_ending : ℕ → Option Bool → Option (ℕ × Bool)
-    with_ending k None = None
-    with_ending k (Some out_of_memory) = Some (k, out_of_memory)
-
-    ended : ℕ → Option (List ℕ) → Option (ℕ × Bool)
-    ended k None = None
-    ended k (Some bs) = with_ending k (shown_ending bs)
-
-    numbered : Option (List ℕ) → Option (ℕ × Bool)
-    numbered None = None
-    numbered (Some bs) = cond (is_number (digits bs)) (ended (number_from 0 (digits bs)) (behind (codes " ") (drop (length (digits bs)) bs))) None
+shown_session l = option_and_then shown_entry (behind (codes "session ") l)
 
 -- the order that the lines beginning with `session` show
 abbrev pub order_of : List ℕ → List (ℕ × Bool)

@@ -8,7 +8,7 @@ use Rattle.ml_term.specs.declared.declaration.Kind.TheVariants.{Relation, Clause
 use Rattle.ml_search.specs.Program.{Clause, Program, Goal, commit, Script, true_body}
 use Rattle.ml_search.specs.Db.{is_db}
 use Rattle.ml_search.specs.Loading.{first_db}
-use Rattle.ml_search.specs.Valid.{is_program, is_script}
+use Rattle.ml_search.specs.WellFormed.{is_program, is_script}
 use Rattle.ml_search.specs.Session.{line}
 use Rattle.ml_search.specs.History.{history}
 use Rattle.ml_search.specs.Printed.{printed}

@@ -2,6 +2,7 @@
 -- and take them back; here a session that doesn't commit gives the lists that it began with.
 use Rattle.std.specs.Prelude.{ℕ, ◌+◌, nat_lt, Bool, true, ◌==◌, not, List, [], ◌∷◌, ◌++◌, map, length, Option, Some, None, cond, codes}
 use Rattle.std.specs.List.{filter, list_any}
+use Rattle.std.specs.Option.{option_or}
 use Rattle.ml_term.specs.Tree.{Tree, variable, variables, width}
 use Rattle.ml_term.specs.Decimal.{decimal_text}
 use Rattle.ml_term.specs.Text.{text_of}
@@ -70,11 +71,7 @@ raised_by exhausted = Some (resource_error (codes "inferences"))
 
 -- what a goal raises: at an answer, or else at the end of its search
 abbrev pub raised_in : Written → Outcome → Option Tree
-raised_in w o = first w.fault
-  where
-    first : Option Tree → Option Tree
-    first (Some t) = Some t
-    first None = raised_by o.end
+raised_in w o = option_or w.fault (raised_by o.end)
 
 abbrev pub goal_line : ℕ → List ℕ
 goal_line j = line (codes "goal " ++ decimal_text j)

@@ -37,16 +37,16 @@ pub data End : Type 0 where
   exhausted : End
 
 -- how an item is used: a tuple that is called, a clause that is called, or a clause that is taken out if its body unifies with this one
-pub data How : Type 0 where
-  as_tuple : How
-  as_clause : How
-  to_retract : Tree → How
+pub data Usage : Type 0 where
+  as_tuple : Usage
+  as_clause : Usage
+  to_retract : Tree → Usage
 
 -- What a goal is that is no control construct: a plain built-in; a declared predicate, or `retract` on one, with the number of its list; a program
 -- predicate; a store built-in that is refused, or that changes a list; or nothing.
 pub data Known : Type 0 where
   plain : (ℕ → Did) → Known
-  declared : How → ℕ → Known
+  declared : Usage → ℕ → Known
   retracting : ℕ → Tree → Tree → Known
   defined : List Clause → Known
   refused : Tree → Known
@@ -58,20 +58,20 @@ pub data Known : Type 0 where
 
 -- What becomes of the branches: the first one's terms are an answer; the search is over; these stand in place of the first; only the last ones stay
 -- of the others, and then; or a clause's branches stand in place of the first.
-pub data Go (T : Type 0) : Type 0 where
-  answer : List Tree → Go T
-  over : End → Go T
-  leaves : List (Branch T) → Go T
-  cuts : ℕ → Go T → Go T
-  tries : Tree → Branch T → List Clause → Go T
+pub data Course (T : Type 0) : Type 0 where
+  answer : List Tree → Course T
+  over : End → Course T
+  leaves : List (Branch T) → Course T
+  cuts : ℕ → Course T → Course T
+  tries : Tree → Branch T → List Clause → Course T
 
 -- What is done with the first goal: something becomes of the branches; an inference is used first; the items of a list are tried; a list is changed,
 -- with what follows where it changed, where it didn't, and where too many changes were made; or a goal is searched by itself.
 pub data Act (T : Type 0) : Type 0 where
-  plainly : Go T → Act T
+  plainly : Course T → Act T
   uses : Act T → Act T
-  calls : How → ℕ → Tree → Branch T → Act T
-  alters : Alter T → Go T → Go T → Go T → Act T
+  calls : Usage → ℕ → Tree → Branch T → Act T
+  alters : Alter T → Course T → Course T → Course T → Act T
   finds : Tree → Tree → Tree → Branch T → Act T
 
 module _ {T : Type 0} where
@@ -94,8 +94,8 @@ module _ {T : Type 0} where
   with_goals gs b = record b { goals = gs }
 
   -- it goes on with these goals
-  abbrev pub on : Goals T → Branch T → Go T
-  on gs b = leaves (with_goals gs b ∷ [])
+  abbrev pub goes_on : Goals T → Branch T → Course T
+  goes_on gs b = leaves (with_goals gs b ∷ [])
 
   -- the branch where there is a unifier, and none where there isn't
   abbrev pub by : Option Map → Branch T → List (Branch T)
@@ -120,14 +120,14 @@ module _ {T : Type 0} where
   by_clause goal n b c = entered goal c.head c.body (renamed_body c.body n b) b
 
   -- the branch of an item, or none: x names it
-  abbrev pub by_item : How → Tree → ℕ → Branch T → T → Tree → List (Branch T)
+  abbrev pub by_item : Usage → Tree → ℕ → Branch T → T → Tree → List (Branch T)
   by_item as_tuple goal n b x t = entered goal t true_body (spend (renamed_body true_body n b)) b
   by_item as_clause goal n b x t = entered goal (head_of t) (body_of t) (spend (renamed_body (body_of t) n b)) b
   by_item (to_retract wanted) goal n b x t = entered goal (head_of t) (body_of t) (spend (same wanted (fresh b.next (body_of t)) (take x b.goals))) b
 
   -- A ball goes to the nearest `caught` among the goals. It is renamed from `next` on and unified with the catcher; where there is no unifier, it goes to
   -- the nearest one among the goals that stood there. The branches since the `catch/3` was called are gone either way.
-  abbrev pub thrown : Tree → ℕ → Goals T → Go T
+  abbrev pub thrown : Tree → ℕ → Goals T → Course T
   thrown t next done = over (ball t)
   thrown t next (body g h gs) = thrown t next gs
   thrown t next (cut h gs) = thrown t next gs
@@ -140,7 +140,7 @@ module _ {T : Type 0} where
   ])
 
   -- a raised term: its ball's second argument is the next variable
-  abbrev pub raised : Tree → Branch T → Go T
+  abbrev pub raised : Tree → Branch T → Course T
   raised t b = thrown (error_ball t b.next) b.next b.goals
 
   -- what is done where no check applies
@@ -154,13 +154,13 @@ module _ {T : Type 0} where
   sized true b a = plainly (raised (resource_error (codes "term")) b)
 
   -- what a plain built-in leads to
-  abbrev pub did : Did → Goals T → Branch T → Go T
-  did fails gs b = leaves []
-  did (binds m next) gs b = leaves (with_map m (record { goals = gs; terms = b.terms; next = next }) ∷ [])
-  did (raises t) gs b = raised t b
+  abbrev pub after_built_in : Did → Goals T → Branch T → Course T
+  after_built_in fails gs b = leaves []
+  after_built_in (binds m next) gs b = leaves (with_map m (record { goals = gs; terms = b.terms; next = next }) ∷ [])
+  after_built_in (raises t) gs b = raised t b
 
   -- a change where too many were made
-  abbrev pub too_many : Branch T → Go T
+  abbrev pub too_many : Branch T → Course T
   too_many b = raised (resource_error (codes "changes")) b
 
 -- copies of terms, one after another: each one's variables are new, by first place
@@ -175,7 +175,7 @@ next_after next (t ∷ ts) = next_after (next + width t) ts
 
 module _ {T : Type 0} where
   -- what the search of a goal by itself leads to: the list is unified with the copies of its answers, or its ball is the ball here
-  abbrev pub gathered : Tree → Branch T → End → List Tree → Go T
+  abbrev pub gathered : Tree → Branch T → End → List Tree → Course T
   gathered l b exhausted ts = over exhausted
   gathered l b (ball t) ts = thrown t b.next b.goals
   gathered l b finished ts = leaves (by (unifier l (list_term (copies b.next ts))) (record { goals = b.goals; terms = b.terms; next = next_after b.next ts }))
@@ -186,31 +186,31 @@ module _ {T : Type 0} where
 
   -- A goal that is no control construct, by its name f and its arguments. The goals gs stand behind it; n is the number of other branches.
   abbrev pub known_act : Known → List ℕ → List Tree → Goals T → ℕ → Branch T → Act T
-  known_act (plain d) f ts gs n b = uses (plainly (did (d b.next) gs b))
+  known_act (plain d) f ts gs n b = uses (plainly (after_built_in (d b.next) gs b))
   known_act (declared how d) f ts gs n b = uses (sized (is_too_large (goal_term f ts)) b (calls how d (goal_term f ts) (with_goals gs b)))
   known_act (retracting d head wanted) f ts gs n b = uses (calls (to_retract wanted) d head (with_goals gs b))
   known_act (defined cs) f ts gs n b = uses (plainly (tries (goal_term f ts) (with_goals gs b) cs))
   known_act (refused t) f ts gs n b = uses (plainly (raised t b))
-  known_act (inserting t) f ts gs n b = uses (alters (puts t) (on gs b) (on gs b) (too_many b))
-  known_act (deleting t) f ts gs n b = uses (alters (takes t) (on gs b) (leaves []) (too_many b))
-  known_act (asserting_first c) f ts gs n b = uses (alters (puts_first c) (on gs b) (on gs b) (too_many b))
-  known_act (asserting_last c) f ts gs n b = uses (alters (puts_last c) (on gs b) (on gs b) (too_many b))
+  known_act (inserting t) f ts gs n b = uses (alters (puts t) (goes_on gs b) (goes_on gs b) (too_many b))
+  known_act (deleting t) f ts gs n b = uses (alters (takes t) (goes_on gs b) (leaves []) (too_many b))
+  known_act (asserting_first c) f ts gs n b = uses (alters (puts_first c) (goes_on gs b) (goes_on gs b) (too_many b))
+  known_act (asserting_last c) f ts gs n b = uses (alters (puts_last c) (goes_on gs b) (goes_on gs b) (too_many b))
   known_act unknown f ts gs n b = plainly (raised (existence_error f (length ts)) b)
 
 module _ (known : List ℕ → List Tree → Known) {T : Type 0} where
   -- A body with its number h, a row for each form.
   abbrev pub body_act : Body → ℕ → Goals T → ℕ → Branch T → Act T
-  body_act truth h gs n b = plainly (on gs b)
+  body_act truth h gs n b = plainly (goes_on gs b)
   body_act failure h gs n b = plainly (leaves [])
-  body_act (both x y) h gs n b = plainly (on (body x h (body y h gs)) b)
+  body_act (both x y) h gs n b = plainly (goes_on (body x h (body y h gs)) b)
   body_act (choose c x y) h gs n b = plainly (leaves (with_goals (body c (suc n) (cut n (body x h gs))) b ∷ with_goals (body y h gs) b ∷ []))
   body_act (only_if c x) h gs n b = plainly (leaves (with_goals (body c (suc n) (cut n (body x h gs))) b ∷ with_goals (body failure h gs) b ∷ []))
   body_act (either x y) h gs n b = plainly (leaves (with_goals (body x h gs) b ∷ with_goals (body y h gs) b ∷ []))
-  body_act cutting h gs n b = plainly (cuts h (on gs b))
-  body_act (calling g) h gs n b = uses (checked (goal_fault g) b (plainly (on (body (taken g) n gs) b)))
-  body_act (calling_once g) h gs n b = uses (checked (goal_fault g) b (plainly (on (body (taken g) n (cut n gs)) b)))
+  body_act cutting h gs n b = plainly (cuts h (goes_on gs b))
+  body_act (calling g) h gs n b = uses (checked (goal_fault g) b (plainly (goes_on (body (taken g) n gs) b)))
+  body_act (calling_once g) h gs n b = uses (checked (goal_fault g) b (plainly (goes_on (body (taken g) n (cut n gs)) b)))
   body_act (unless g) h gs n b = uses (checked (goal_fault g) b (plainly (leaves (with_goals (body (taken g) (suc n) (cut n (body failure n gs))) b ∷ with_goals gs b ∷ []))))
-  body_act (catching g c k) h gs n b = uses (checked (goal_fault g) b (plainly (on (body (taken g) n (caught n c k gs b.terms gs)) b)))
+  body_act (catching g c k) h gs n b = uses (checked (goal_fault g) b (plainly (goes_on (body (taken g) n (caught n c k gs b.terms gs)) b)))
   body_act (throwing t) h gs n b = uses (checked (ball_fault t) b (plainly (thrown t b.next gs)))
   body_act (finding x g l) h gs n b = uses (checked (goal_fault g) b (checked (list_fault l) b (finds x g l (with_goals gs b))))
   body_act (other f ts) h gs n b = known_act (known f ts) f ts gs n b
@@ -219,11 +219,11 @@ module _ (known : List ℕ → List Tree → Known) {T : Type 0} where
   abbrev pub goals_act : Goals T → ℕ → Branch T → Act T
   goals_act done n b = plainly (answer b.terms)
   goals_act (body g h gs) n b = body_act g h gs n b
-  goals_act (cut h gs) n b = plainly (cuts h (on gs b))
-  goals_act (spend gs) n b = uses (plainly (on gs b))
+  goals_act (cut h gs) n b = plainly (cuts h (goes_on gs b))
+  goals_act (spend gs) n b = uses (plainly (goes_on gs b))
   goals_act (same t u gs) n b = plainly (leaves (by (unifier t u) (with_goals gs b)))
-  goals_act (take x gs) n b = alters (drops x) (on gs b) (leaves []) (too_many b)
-  goals_act (caught h c k saved ts gs) n b = plainly (on gs b)
+  goals_act (take x gs) n b = alters (drops x) (goes_on gs b) (leaves []) (too_many b)
+  goals_act (caught h c k saved ts gs) n b = plainly (goes_on gs b)
 
   -- what is done with the first branch, where n others stand behind it
   abbrev pub act : ℕ → Branch T → Act T

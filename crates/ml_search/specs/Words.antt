@@ -1,6 +1,10 @@
--- Words in which laws of the search and of replays are said.
-use Rattle.std.specs.Prelude.{ℕ, ◌+◌, Bool, true, false, []}
+-- Words in which laws of the search, of replays and of prints are said.
+use Rattle.std.specs.Prelude.{ℕ, ◌+◌, ◌==◌, nat_lt, nat_le, Bool, true, false, ◌&&◌, not, List, [], length, is_none}
+use Rattle.std.specs.List.{list_all}
 use Rattle.ml_term.specs.Tree.{atom}
+use Rattle.ml_search.specs.Limits.{most_goals}
+use Rattle.ml_search.specs.Program.{Goal, Script}
+use Rattle.ml_search.specs.History.{Entry}
 use Rattle.ml_search.specs.Bodies.{Body, in_body}
 use Rattle.ml_search.specs.Table.{End, finished, ball, exhausted}
 use Rattle.ml_search.specs.Search.{State, Outcome}
@@ -21,3 +25,23 @@ abbrev pub ran_out : End → Bool
 ran_out finished = false
 ran_out (ball t) = false
 ran_out exhausted = true
+
+-- whether a text has no line feed
+abbrev pub is_one_line : List ℕ → Bool
+is_one_line = list_all (λ b. not (b == 10))
+
+-- whether no name of a goal's variables has a line feed
+abbrev pub names_are_plain : Goal → Bool
+names_are_plain g = list_all (λ e. is_one_line e.0) g.names
+
+-- whether this holds of each goal of a script, and there are not too many
+abbrev pub is_printable : Script → Bool
+is_printable s = list_all names_are_plain s.goals && nat_le (length s.goals) most_goals
+
+-- whether an order names sessions by numbers from 1 that fit 32 bits
+abbrev pub are_session_numbers : List (ℕ × Bool) → Bool
+are_session_numbers = list_all (λ o. nat_le 1 o.0 && nat_lt o.0 4294967296)
+
+-- what an entry's line is to show: its number, and whether it was out of memory
+abbrev pub shown_of : Entry → ℕ × Bool
+shown_of e = (e.number, is_none e.ran)

@@ -1,4 +1,6 @@
 //! How sessions end.
+ghost use Rattle.ml_search.specs.Endings.{entry_ending};
+ghost use Rattle.std.specs.Prelude.{◌≡◌};
 
 /// How a session ends.
 #[derive(Clone, Copy)]
@@ -26,4 +28,18 @@ pub enum EntryEnding {
     Failed(u32),
     /// The session found no memory; it has no lines and changed nothing.
     OutOfMemory,
+}
+
+impl EntryEnding {
+    /// The ending of the entry of a session that ended like this.
+    pub fn of(ending: Ending) -> EntryEnding
+        ensures { result ≡ entry_ending ending }
+    {
+        match ending {
+            Ending::Committed => EntryEnding::Committed,
+            Ending::Aborted => EntryEnding::Aborted,
+            Ending::Refused => EntryEnding::Refused,
+            Ending::Failed(j) => EntryEnding::Failed(j),
+        }
+    }
 }

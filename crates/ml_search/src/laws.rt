@@ -1,16 +1,19 @@
 //! Laws of the definitions. The functions do nothing: their contracts are the laws, for the layers above and for the reader.
 ghost use Rattle.ml_search.specs.Bodies.{Body, body_size, calling, in_body, taken};
 ghost use Rattle.ml_search.specs.Changes.{Lists};
-ghost use Rattle.ml_search.specs.Db.{Db};
+ghost use Rattle.ml_search.specs.Db.{Db, is_committed, mine};
+ghost use Rattle.ml_search.specs.History.{history};
 ghost use Rattle.ml_search.specs.Operations.{Log, Operation};
-ghost use Rattle.ml_search.specs.Program.{Program};
-ghost use Rattle.ml_search.specs.Replay.{replay, Replays, replies, Store, store_after};
+ghost use Rattle.ml_search.specs.Printed.{order_of, printed};
+ghost use Rattle.ml_search.specs.Program.{Program, Script};
+ghost use Rattle.ml_search.specs.Replay.{begun, changed_by, Replays, replies, Store, store_after};
 ghost use Rattle.ml_search.specs.Search.{branches_size, led_to, Outcome, searched, State, turn};
-ghost use Rattle.ml_search.specs.Words.{more_left, outline, ran_out, with_more_left};
+ghost use Rattle.ml_search.specs.Words.{are_session_numbers, is_printable, more_left, outline, ran_out, shown_of, with_more_left};
 ghost use Rattle.ml_term.specs.Falling.{AlwaysFalls};
 ghost use Rattle.ml_term.specs.Tree.{Tree, variable};
 ghost use Rattle.ml_term.specs.declared.declaration.Decl.{Decl};
-ghost use Rattle.std.specs.Prelude.{◌++◌, ◌≡◌, false, List, ℕ};
+ghost use Rattle.std.specs.List.{list_all};
+ghost use Rattle.std.specs.Prelude.{◌++◌, ◌≡◌, Bool, false, List, map, true, ℕ};
 
 /// The search ends for every input, and is what its turns lead to.
 /// `falls`: each turn lowers the number of inferences left, or keeps it and lowers the size of the branches.
@@ -44,4 +47,26 @@ pub fn replies_depend_on_the_past_alone()
     ensures after { (decls : List Decl) (os ps : List Operation) (s : Store) →
         store_after decls (os ++ ps) s ≡ store_after decls ps (store_after decls os s) }
     ensures beginning { (decls : List Decl) (db : Db) (l k : Log) → Replays decls db (l ++ k) → Replays decls db l }
+{}
+
+/// Where plain lists give a log's replies, the changes that the log tells of make of them what the operations make of them.
+pub fn a_log_changes_the_lists_that_replay_it()
+    ensures { (decls : List Decl) (db : Db) (l : Log) → Replays decls db l →
+        changed_by decls db l mine ≡ (store_after decls (map (λ e. e.0) l) (begun decls db)).lists.db }
+{}
+
+/// A history that begins with lists of which every item was committed or loaded ends with such lists.
+pub fn a_history_commits_its_items()
+    ensures { (program : Program) (db : Db) (scripts : List Script) (order : List (ℕ × Bool)) → is_committed db ≡ true →
+        is_committed (history program db scripts order).1 ≡ true }
+{}
+
+/// A print shows the order of its entries.
+/// `order`: the lines of a history show for each entry its number and whether it was out of memory, in their order, and nothing else.
+/// `beginning`: what the beginning of some bytes shows is a beginning of what they show.
+pub fn a_print_shows_its_order()
+    ensures order { (program : Program) (db : Db) (scripts : List Script) (order : List (ℕ × Bool)) →
+        list_all is_printable scripts ≡ true → are_session_numbers order ≡ true →
+        order_of (printed (history program db scripts order).0) ≡ map shown_of (history program db scripts order).0 }
+    ensures beginning { (xs ys : List ℕ) → (os : List (ℕ × Bool)) × (order_of (xs ++ ys) ≡ order_of xs ++ os) }
 {}

@@ -11,12 +11,12 @@ use Rattle.ml_search.specs.Bodies.{is_callable}
 use Rattle.ml_search.specs.Known.{is_reserved}
 
 -- whether a term may be the head of a clause: an atom or a compound whose predicate is no control construct and no built-in
-abbrev pub is_head : Tree → Bool
-is_head t = (is_atom t || is_compound t) && not (is_reserved (name_of t) (arity_of t))
+abbrev pub is_clause_head : Tree → Bool
+is_clause_head t = (is_atom t || is_compound t) && not (is_reserved (name_of t) (arity_of t))
 
 -- whether a clause is a term of the language, has such a head and a callable body, and its variables are numbered from 0 by first place
 abbrev pub is_clause : Clause → Bool
-is_clause c = is_valid (clause_term c.head c.body) && is_head c.head && is_callable c.body && is_numbered (clause_term c.head c.body)
+is_clause c = is_valid (clause_term c.head c.body) && is_clause_head c.head && is_callable c.body && is_numbered (clause_term c.head c.body)
 
 -- whether numbers rise
 abbrev pub are_rising : List ℕ → Bool

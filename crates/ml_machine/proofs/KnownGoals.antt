@@ -12,12 +12,12 @@ use Rattle.ml_search.specs.Errors.{first_fault, is_too_large}
 use Rattle.ml_search.specs.Bodies.{is_callable}
 use Rattle.ml_search.specs.Builtins.{Did, builtin, with, or_else}
 use Rattle.ml_search.specs.Changes.{list_for}
-use Rattle.ml_search.specs.Table.{How, to_retract, Known, plain, declared, retracting, defined, refused, inserting, deleting, asserting_first, asserting_last, unknown}
-use Rattle.ml_search.specs.Known.{given_head, given_body, is_over_bytes, tuple_fault, retract_fault, assert_fault, unless_refused, store_known, store_built_in, called_as, declared_known, defined_known, known}
+use Rattle.ml_search.specs.Table.{Usage, to_retract, Known, plain, declared, retracting, defined, refused, inserting, deleting, asserting_first, asserting_last, unknown}
+use Rattle.ml_search.specs.Known.{given_head, given_body, is_over_bytes, tuple_fault, retract_fault, assert_fault, known_unless, store_known, store_built_in, called_as, declared_known, defined_known, known}
 use Rattle.ml_machine.specs.Expand.{is_stored}
 
 -- a declaration of a predicate stands at a place, and its items are used so
-pub record IsListOf (decls : List Decl) (how : How) (d : ℕ) (f : List ℕ) (n : ℕ) : Type 0 where
+pub record IsListOf (decls : List Decl) (how : Usage) (d : ℕ) (f : List ℕ) (n : ℕ) : Type 0 where
   pub decl : Decl
   pub stands : slice_get decls d ≡ Some decl
   pub has : has_predicate f n decl ≡ true
@@ -135,7 +135,7 @@ module _ (program : Program) (decls : List Decl) (f : List ℕ) (ts : List Tree)
       chosen true k o h i = h
       chosen false k o h i = i
 
-  refused_or : (o : Option Tree) (k : Known) → (o ≡ None → KnownWell decls f ts k) → KnownWell decls f ts (unless_refused program o k)
+  refused_or : (o : Option Tree) (k : Known) → (o ≡ None → KnownWell decls f ts k) → KnownWell decls f ts (known_unless program o k)
   refused_or None k h = h refl
   refused_or (Some t) k h = tt
 

@@ -1,5 +1,5 @@
-use Rattle.ml_machine.proofs.Law.{goes_on}
+use Rattle.ml_machine.proofs.Law.{keeps_meaning}
 use Rattle.ml_machine.proofs.laws.a_move_keeps_what_it_comes_to.Goals as goal
 
 pub returns : goal.returns
-returns c = goes_on
+returns c = keeps_meaning

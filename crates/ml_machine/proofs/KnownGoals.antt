@@ -101,16 +101,16 @@ kind_used : (program : Program) (q : Decl) (k : Kind) → q.kind ≡ k → is_cl
 kind_used program q Relation e = rw e refl
 kind_used program q Clauses e = rw e refl
 
-module _ (program : Program) (decls : List Decl) (f : List ℕ) (ts : List Tree) where
+module _ (program : Program) (f : List ℕ) (ts : List Tree) where
   abbrev OptionWell : Option Known → Type 0
   OptionWell None = Unit {0}
-  OptionWell (Some k) = KnownWell decls f ts k
+  OptionWell (Some k) = KnownWell program.decls f ts k
 
   else_well : (a b : Option Known) → OptionWell a → OptionWell b → OptionWell (or_else a b)
   else_well None b h k = k
   else_well (Some x) b h k = h
 
-  unwrapped_well : (o : Option Known) → OptionWell o → KnownWell decls f ts (unwrap_or o unknown)
+  unwrapped_well : (o : Option Known) → OptionWell o → KnownWell program.decls f ts (unwrap_or o unknown)
   unwrapped_well None h = tt
   unwrapped_well (Some k) h = h
 
@@ -125,17 +125,17 @@ module _ (program : Program) (decls : List Decl) (f : List ℕ) (ts : List Tree)
   -- each entry of a table
   abbrev EachWell : Tree → List (List ℕ × (Tree → Known)) → Type 0
   EachWell t [] = Unit {0}
-  EachWell t (e ∷ es) = KnownWell decls f ts (e.1 t) × EachWell t es
+  EachWell t (e ∷ es) = KnownWell program.decls f ts (e.1 t) × EachWell t es
 
   named_well : (t : Tree) (es : List (List ℕ × (Tree → Known))) (g : List ℕ) → EachWell t es → OptionWell (with (λ k. k t) (named es g))
   named_well t [] g h = tt
   named_well t (e ∷ es) g h = chosen _ e.1 (named es g) h.0 (named_well t es g h.1)
     where
-      chosen : (b : Bool) (k : Tree → Known) (o : Option (Tree → Known)) → KnownWell decls f ts (k t) → OptionWell (with (λ k. k t) o) → OptionWell (with (λ k. k t) (cond b (Some k) o))
+      chosen : (b : Bool) (k : Tree → Known) (o : Option (Tree → Known)) → KnownWell program.decls f ts (k t) → OptionWell (with (λ k. k t) o) → OptionWell (with (λ k. k t) (cond b (Some k) o))
       chosen true k o h i = h
       chosen false k o h i = i
 
-  refused_or : (o : Option Tree) (k : Known) → (o ≡ None → KnownWell decls f ts k) → KnownWell decls f ts (known_unless program o k)
+  refused_or : (o : Option Tree) (k : Known) → (o ≡ None → KnownWell program.decls f ts k) → KnownWell program.decls f ts (known_unless program o k)
   refused_or None k h = h refl
   refused_or (Some t) k h = tt
 
@@ -202,27 +202,27 @@ module _ (program : Program) where
             short = y.0;
           }
 
-  store_well : (f : List ℕ) (ts : List Tree) → OptionWell program program.decls f ts (store_known program f ts)
+  store_well : (f : List ℕ) (ts : List Tree) → OptionWell program f ts (store_known program f ts)
   store_well f [] = tt
-  store_well f (t ∷ []) = named_well program program.decls f (t ∷ []) t (store_built_in program) f (
-    refused_or program program.decls f (t ∷ []) (tuple_fault program t) (inserting t) (tuple_well t),
+  store_well f (t ∷ []) = named_well program f (t ∷ []) t (store_built_in program) f (
+    refused_or program f (t ∷ []) (tuple_fault program t) (inserting t) (tuple_well t),
     (
-      refused_or program program.decls f (t ∷ []) (tuple_fault program t) (deleting t) (tuple_well t),
+      refused_or program f (t ∷ []) (tuple_fault program t) (deleting t) (tuple_well t),
       (
-        refused_or program program.decls f (t ∷ []) (assert_fault program (given_head t) (given_body t)) (asserting_first (renamed 0 (clause_term (given_head t) (given_body t)))) (assert_well (given_head t) (given_body t)),
+        refused_or program f (t ∷ []) (assert_fault program (given_head t) (given_body t)) (asserting_first (renamed 0 (clause_term (given_head t) (given_body t)))) (assert_well (given_head t) (given_body t)),
         (
-          refused_or program program.decls f (t ∷ []) (assert_fault program (given_head t) (given_body t)) (asserting_last (renamed 0 (clause_term (given_head t) (given_body t)))) (assert_well (given_head t) (given_body t)),
-          (refused_or program program.decls f (t ∷ []) (retract_fault program (given_head t) (given_body t)) (retracting (list_for program.decls (given_head t)) (given_head t) (given_body t)) (retract_well (given_head t) (given_body t)), tt),
+          refused_or program f (t ∷ []) (assert_fault program (given_head t) (given_body t)) (asserting_last (renamed 0 (clause_term (given_head t) (given_body t)))) (assert_well (given_head t) (given_body t)),
+          (refused_or program f (t ∷ []) (retract_fault program (given_head t) (given_body t)) (retracting (list_for program.decls (given_head t)) (given_head t) (given_body t)) (retract_well (given_head t) (given_body t)), tt),
         ),
       ),
     ),
   )
   store_well f (t ∷ u ∷ ts) = tt
 
-  declared_well : (f : List ℕ) (ts : List Tree) → OptionWell program program.decls f ts (declared_known program f (length ts))
+  declared_well : (f : List ℕ) (ts : List Tree) → OptionWell program f ts (declared_known program f (length ts))
   declared_well f ts = after (declaration_of program.decls f (length ts)) refl
     where
-      after : (o : Option Decl) → declaration_of program.decls f (length ts) ≡ o → OptionWell program program.decls f ts (declared_known program f (length ts))
+      after : (o : Option Decl) → declaration_of program.decls f (length ts) ≡ o → OptionWell program f ts (declared_known program f (length ts))
       after None e = rw e tt
       after (Some q) e =
           let w = found program.decls f (length ts) q e in
@@ -233,7 +233,7 @@ module _ (program : Program) where
   -- what a goal is, is right
   pub known_well : (f : List ℕ) (ts : List Tree) → KnownWell program.decls f ts (known program f ts)
   known_well f ts =
-      unwrapped_well program program.decls f ts _
-      (else_well program program.decls f ts (with plain (builtin f ts)) _ (plain_well program program.decls f ts (builtin f ts))
-      (else_well program program.decls f ts (store_known program f ts) _ (store_well f ts)
-      (else_well program program.decls f ts (declared_known program f (length ts)) _ (declared_well f ts) (defined_well program program.decls f ts (clauses_of program.clauses f (length ts))))))
+      unwrapped_well program f ts _
+      (else_well program f ts (with plain (builtin f ts)) _ (plain_well program f ts (builtin f ts))
+      (else_well program f ts (store_known program f ts) _ (store_well f ts)
+      (else_well program f ts (declared_known program f (length ts)) _ (declared_well f ts) (defined_well program f ts (clauses_of program.clauses f (length ts))))))

@@ -1,7 +1,7 @@
 //! What a desk told: laws of the search that asks. The functions do nothing: their contracts are the laws, for the machine and for the reader.
 ghost use Rattle.ml_machine.specs.Asked.{has_replies, has_valid_term};
-ghost use Rattle.ml_machine.specs.Asking.{Asking, asks, concluded, Conclusion, goes, Move, turn};
-ghost use Rattle.ml_machine.specs.Expand.{meant, MoveIsWell};
+ghost use Rattle.ml_machine.specs.Asking.{Asking, asks, begin, concluded, Conclusion, goes, Move, turn};
+ghost use Rattle.ml_machine.specs.Expand.{meant, MoveIsWellFormed};
 ghost use Rattle.ml_machine.specs.Leads.{Begins, IsLed, Leads, LeadsOver, lists_after, outcome};
 ghost use Rattle.ml_machine.specs.Weights.{FallsBelow, HasStopped, weight};
 ghost use Rattle.ml_search.specs.Db.{Db, mine};
@@ -34,10 +34,12 @@ pub fn answers_so_far_are_the_first()
 {}
 
 /// What a move comes to over plain lists stays the same wherever replies lead that these lists give: at every moment, also where nothing is concluded.
+/// `keeps`: the move is one whose entries speak of those below them and of open cursors. `begins`: the first one is, over any lists.
 pub fn a_move_keeps_what_it_comes_to()
-    ensures { (program : Program) (v w : Move) (l k : Log) → Leads program v l w k → (db : Db) → Replays program.decls db k →
-        MoveIsWell program v (store_after program.decls (map (λ e. e.0) l) (begun program.decls db)) →
+    ensures keeps { (program : Program) (v w : Move) (l k : Log) → Leads program v l w k → (db : Db) → Replays program.decls db k →
+        MoveIsWellFormed program v (store_after program.decls (map (λ e. e.0) l) (begun program.decls db)) →
         meant program v (store_after program.decls (map (λ e. e.0) l) (begun program.decls db)) ≡ meant program w (store_after program.decls (map (λ e. e.0) k) (begun program.decls db)) }
+    ensures begins { (program : Program) (goal : Tree) (terms : List Tree) (number left : ℕ) (s : Store) → MoveIsWellFormed program (goes (begin goal terms number left)) s }
 {}
 
 /// Each operation that is asked may be asked after the log, over any replies of their kinds, if its term, where it has one, is a term of the language.

@@ -1,0 +1,17 @@
+pub mod Computed
+pub mod Heights
+pub mod Fitting
+pub mod Out
+pub mod KnownGoals
+pub mod Unifying
+pub mod Meeting
+pub mod Turns
+pub mod Stays
+pub mod Law
+pub mod Answers
+pub mod Lightness
+pub mod Lasts
+pub mod Allowed
+pub mod Asks
+pub mod Validity
+pub mod Ends

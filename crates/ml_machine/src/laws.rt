@@ -1,0 +1,67 @@
+//! What a desk told: laws of the search that asks. The functions do nothing: their contracts are the laws, for the machine and for the reader.
+ghost use Rattle.ml_machine.specs.Asked.{has_replies, has_valid_term};
+ghost use Rattle.ml_machine.specs.Asking.{Asking, asks, begin, concluded, Conclusion, goes, Move, turn};
+ghost use Rattle.ml_machine.specs.Expand.{meant, MoveIsWellFormed};
+ghost use Rattle.ml_machine.specs.Leads.{Begins, IsLed, Leads, LeadsOver, lists_after, outcome};
+ghost use Rattle.ml_machine.specs.Weights.{FallsBelow, HasStopped, weight};
+ghost use Rattle.ml_search.specs.Db.{Db, mine};
+ghost use Rattle.ml_search.specs.Operations.{is_valid_after, Log, Operation, Reply};
+ghost use Rattle.ml_search.specs.Program.{Program};
+ghost use Rattle.ml_search.specs.Replay.{begun, changed_by, Replays, Store, store_after};
+ghost use Rattle.ml_search.specs.Search.{search_of};
+ghost use Rattle.ml_term.specs.Tree.{Tree};
+ghost use Rattle.std.specs.Prelude.{◌++◌, ◌∷◌, ◌≡◌, [], List, map, true, ℕ};
+
+/// Whatever a desk told: where its replies led a search from a log to its conclusion and a longer log, take any lists that give the longer log's replies.
+/// `same`: the search over these lists, as they are after the log before, has the same answers, end and inferences left, and leaves the lists with the
+/// list of changes as they are after the longer log.
+/// `changed`: these lists are those that the log's changes make.
+pub fn a_search_that_asks_is_the_search()
+    ensures same { (program : Program) (goal : Tree) (terms : List Tree) (number left : ℕ) (l k : Log) (o : Conclusion) →
+        IsLed program goal terms number left l (concluded o) k → (db : Db) → Replays program.decls db k →
+        search_of program goal terms number (lists_after program.decls db l) left ≡ outcome o (lists_after program.decls db k) }
+    ensures changed { (program : Program) (goal : Tree) (terms : List Tree) (number left : ℕ) (l k : Log) (o : Conclusion) →
+        IsLed program goal terms number left l (concluded o) k → (db : Db) → Replays program.decls db k →
+        ((lists_after program.decls db l).db ≡ changed_by program.decls db l mine) × ((lists_after program.decls db k).db ≡ changed_by program.decls db k mine) }
+{}
+
+/// A search that is stopped while no `findall/3` is open: the answers found so far are the first answers of the search over all lists that give the
+/// log's replies. So one is stopped at its first answer, or where its answers pass a limit.
+pub fn answers_so_far_are_the_first()
+    ensures { (program : Program) (goal : Tree) (terms : List Tree) (number left : ℕ) (l k : Log) (m : Asking) → m.outer ≡ [] →
+        IsLed program goal terms number left l (goes m) k → (db : Db) → Replays program.decls db k →
+        Begins m.found (search_of program goal terms number (lists_after program.decls db l) left).found }
+{}
+
+/// What a move comes to over plain lists stays the same wherever replies lead that these lists give: at every moment, also where nothing is concluded.
+/// `keeps`: the move is one whose entries speak of those below them and of open cursors. `begins`: the first one is, over any lists.
+pub fn a_move_keeps_what_it_comes_to()
+    ensures keeps { (program : Program) (v w : Move) (l k : Log) → Leads program v l w k → (db : Db) → Replays program.decls db k →
+        MoveIsWellFormed program v (store_after program.decls (map (λ e. e.0) l) (begun program.decls db)) →
+        meant program v (store_after program.decls (map (λ e. e.0) l) (begun program.decls db)) ≡ meant program w (store_after program.decls (map (λ e. e.0) k) (begun program.decls db)) }
+    ensures begins { (program : Program) (goal : Tree) (terms : List Tree) (number left : ℕ) (s : Store) → MoveIsWellFormed program (goes (begin goal terms number left)) s }
+{}
+
+/// Each operation that is asked may be asked after the log, over any replies of their kinds, if its term, where it has one, is a term of the language.
+pub fn what_is_asked_may_be_asked()
+    ensures { (program : Program) (goal : Tree) (terms : List Tree) (number left : ℕ) (l k : Log) (o : Operation) (f : Reply → Move) →
+        IsLed program goal terms number left l (asks o f) k → has_replies program.decls k ≡ true → has_valid_term o ≡ true → is_valid_after program.decls k o ≡ true }
+{}
+
+/// A search that asks ends over any desk, whatever it replies.
+/// `falls`: a turn, with whatever its reply leads to, lowers the number of inferences left, or keeps it and lowers the weight, as long as items are asked
+/// for by numbers below a bound. An item that doesn't unify uses no inference, and so the bound is what ends it.
+/// `stops`: from every state a desk's replies lead to a conclusion, or to an item asked for by a number that isn't below the bound.
+pub fn a_search_that_asks_ends()
+    ensures falls { (program : Program) (most : ℕ) (m : Asking) → FallsBelow most m.left (weight most m) (turn program m) }
+    ensures stops { (program : Program) (desk : Log → Operation → Reply) (most : ℕ) (m : Asking) (l : Log) →
+        (w : Move) × (k : Log) × LeadsOver program desk (goes m) l w k × HasStopped most w }
+{}
+
+/// How a machine goes on from where it stands: by a turn, or by a reply to what is asked, which the log has then.
+pub fn a_machine_goes_on()
+    ensures nothing { (program : Program) (v : Move) (l : Log) → Leads program v l v l }
+    ensures turns { (program : Program) (v : Move) (l : Log) (m : Asking) (k : Log) → Leads program v l (goes m) k → Leads program v l (turn program m) k }
+    ensures replies { (program : Program) (v : Move) (l : Log) (o : Operation) (f : Reply → Move) (k : Log) (p : Reply) →
+        Leads program v l (asks o f) k → Leads program v l (f p) (k ++ (o, p) ∷ []) }
+{}

@@ -15,3 +15,5 @@ pub mod Allowed
 pub mod Asks
 pub mod Validity
 pub mod Ends
+pub mod Ids
+pub mod Told

@@ -16,4 +16,5 @@ pub mod Asks
 pub mod Validity
 pub mod Ends
 pub mod Ids
+pub mod Keeping
 pub mod Told

@@ -1,157 +1,136 @@
 -- The list of changes of plain lists is what a log tells of them, where they give the log's replies.
-use Rattle.std.specs.Prelude.{◌≡◌, ℕ, zero, suc, ◌+◌, ◌<◌, ◌≤◌, ◌==◌, ◌⊎◌, nat_lt, Bool, true, false, ◌&&◌, not, List, [], ◌∷◌, ◌++◌, length, map, drop, slice_get, unwrap_or, Option, Some, None, is_some, cond}
+use Rattle.std.specs.Prelude.{◌≡◌, ℕ, zero, suc, ◌+◌, ◌<◌, ◌==◌, ◌⊎◌, nat_lt, Bool, true, false, ◌&&◌, not, List, [], ◌∷◌, ◌++◌, length, map, drop, slice_get, unwrap_or, Option, Some, None, is_some, cond}
 use Rattle.std.specs.Option.{option_map, option_map_or, option_and_then}
-use Rattle.std.specs.List.{filter, filter_map, cons_option, list_all}
-use Rattle.std.proofs.Common.{inl, inr, refl, sym, ap, ◌∙◌, subst, arith, length-append, append_assoc}
-use Rattle.std.proofs.lemmas.Bool.{and_parts, and_right, eqb-true, eq-eqb}
+use Rattle.std.specs.List.{filter_map, cons_option, list_all}
+use Rattle.std.proofs.Common.{inl, inr, refl, sym, ap, ◌∙◌, subst, arith, append_assoc}
+use Rattle.std.proofs.lemmas.Bool.{and_parts, eqb-true}
 use Rattle.std.proofs.lemmas.Bool.Decides.{eqb_tells}
 use Rattle.std.proofs.lemmas.Option.{slice_get-map}
 use Rattle.ml_term.specs.Tree.{Tree}
 use Rattle.ml_term.specs.declared.declaration.Decl.{Decl}
 use Rattle.ml_term.specs.declared.declaration.Kind.{Kind}
 use Rattle.ml_term.specs.declared.declaration.Kind.TheVariants.{Relation, Clauses}
-use Rattle.ml_search.specs.declared.change.What.TheVariants.{Put, Taken, First, Last, Dropped}
+use Rattle.ml_search.specs.declared.change.What.TheVariants.{Dropped}
 use Rattle.ml_search.specs.Limits.{most_changes}
-use Rattle.ml_search.specs.Program.{name_of, arity_of, place_of, declaration_of, holds_of, is_relation, is_clause_list, true_body}
-use Rattle.ml_search.specs.Db.{mine, Id, Item, Db, is_same_id, items, with_items, head_of, with_id, ids_differ, is_placed, is_allowed, is_list_of, is_tuple, is_db, is_committed}
-use Rattle.ml_search.specs.Changes.{Change, Lists, Named, Alter, puts, takes, puts_first, puts_last, drops, Effect, changed, unchanged, list_for, without_term, without_id, altered, would_change, change_of, alter}
+use Rattle.ml_search.specs.Program.{holds_of, is_clause_list, true_body}
+use Rattle.ml_search.specs.Db.{mine, Id, Item, Db, items, with_id, ids_differ, is_placed, is_allowed, is_list_of, is_db, is_committed}
+use Rattle.ml_search.specs.Changes.{Change, Lists, Named, Alter, puts, takes, puts_first, puts_last, drops, Effect, changed, unchanged, altered, would_change, change_of, alter}
 use Rattle.ml_search.specs.Changes as C
-use Rattle.ml_search.specs.Operations.{Operation, opens, next, insert, delete, assertz, asserta, delete_at, Reply, cursor, item, no_item, added, present, removed, absent, full, Log, opened, given_by, given, numbered, item_given, declared_of, is_valid_after, is_log_from, is_log}
+use Rattle.ml_search.specs.Operations.{Operation, opens, next, insert, delete, assertz, asserta, delete_at, Reply, cursor, item, no_item, added, present, removed, absent, full, Log, opened, given_by, given, numbered, item_given, declared_of, is_valid_after, is_reply_after, is_log_from, is_log}
 use Rattle.ml_search.specs.Told.{is_change, told_by, told_if, told_of}
-use Rattle.ml_search.specs.Replay.{Cursor, Store, told, member, list_under, unifies, cursor_over, alter_of, reply_by, changing, reply, begun, Replays}
+use Rattle.ml_search.specs.Replay.{Cursor, Store, told, member, list_under, cursor_over, alter_of, reply_by, changing, reply, begun, Replays}
 use Rattle.ml_machine.specs.Leads.{lists_after}
-use Rattle.ml_machine.proofs.Heights.{Extends, member_within, member_later}
-use Rattle.ml_machine.proofs.KnownGoals.{found}
+use Rattle.ml_machine.proofs.Heights.{member_within, member_later}
 use Rattle.ml_machine.proofs.Turns.{extended}
-use Rattle.ml_machine.proofs.Law.{append_none, after_from, after, ReplaysFrom, first_reply}
+use Rattle.ml_machine.proofs.Law.{append_none, after_from, ReplaysFrom, first_reply}
 use Rattle.ml_machine.proofs.Asks.{opened_by, opened_more, given_more, consed}
-use Rattle.ml_machine.proofs.Ids.{Each, each_by, each_filter, each_and_one, each_at, items_with, same_itself, found_id, IsOld, next_id, old_later, old_is_other, Keeps, term_in, each_keeps}
+use Rattle.ml_machine.proofs.Ids.{Each, each_at, found_id, Keeps, term_in, each_keeps}
+use Rattle.ml_machine.proofs.Keeping.{IsClauses, KeepsAll, StoreKeeps, reply_keeps, held}
+
+-- numbered items with more behind them
+numbered_front : (i : ℕ) (es fs : List (ℕ × Tree)) (t : Tree) → numbered i es ≡ Some t → numbered i (es ++ fs) ≡ Some t
+numbered_front i [] fs t e = absurd (cc e)
+numbered_front i (x ∷ es) fs t e = chosen (x.0 == i) (numbered_front i es fs t) e
+  where
+    chosen : (b : Bool) → (numbered i es ≡ Some t → numbered i (es ++ fs) ≡ Some t) → cond b (Some x.1) (numbered i es) ≡ Some t → cond b (Some x.1) (numbered i (es ++ fs)) ≡ Some t
+    chosen true h e = e
+    chosen false h e = h e
+
+numbered_behind : (i : ℕ) (es : List (ℕ × Tree)) (n : ℕ) (u t : Tree) → numbered i (es ++ (n, u) ∷ []) ≡ Some t → (numbered i es ≡ Some t) ⊎ ((n ≡ i) × (u ≡ t))
+numbered_behind i [] n u t e = chosen (n == i) refl e
+  where
+    chosen : (b : Bool) → (n == i) ≡ b → cond b (Some u) None ≡ Some t → (numbered i [] ≡ Some t) ⊎ ((n ≡ i) × (u ≡ t))
+    chosen true h e = inr (eqb-true n i h, cc e)
+    chosen false h e = absurd (cc e)
+numbered_behind i (x ∷ es) n u t e = chosen (x.0 == i) (numbered_behind i es n u t) e
+  where
+    chosen : (b : Bool) → (numbered i (es ++ (n, u) ∷ []) ≡ Some t → (numbered i es ≡ Some t) ⊎ ((n ≡ i) × (u ≡ t))) → cond b (Some x.1) (numbered i (es ++ (n, u) ∷ [])) ≡ Some t
+        → (cond b (Some x.1) (numbered i es) ≡ Some t) ⊎ ((n ≡ i) × (u ≡ t))
+    chosen true h e = inl e
+    chosen false h e = h e
+
+filtered_parts : {A B : Type 0} (h : A → Option B) (xs ys : List A) → filter_map h (xs ++ ys) ≡ filter_map h xs ++ filter_map h ys
+filtered_parts h [] ys = refl
+filtered_parts h (x ∷ xs) ys = consed (h x) (filter_map h (xs ++ ys)) (filter_map h xs) (filter_map h ys) (filtered_parts h xs ys)
+
+mapped_more : (cs : List Cursor) (k : Cursor) → map (λ k. k.list) (cs ++ k ∷ []) ≡ map (λ k. k.list) cs ++ k.list ∷ []
+mapped_more [] k = refl
+mapped_more (x ∷ cs) k = ap (λ z. x.list ∷ z) (mapped_more cs k)
+
+-- what a cursor gave so far, it has; and the log tells over which lists the cursors are
+pub record IsTraced (l : Log) (s : Store) : Type 0 where
+  pub given : (c i : ℕ) (t : Tree) → item_given l c i ≡ Some t → (j : Item) × ((member s.cursors c i ≡ Some j) × (j.term ≡ t))
+  pub opened : opened l ≡ map (λ k. k.list) s.cursors
+
+-- the same cursors
+still_traced : (l : Log) (s u : Store) (o : Operation) (p : Reply) → IsTraced l s → u.cursors ≡ s.cursors → opened_by o ≡ [] → ((c : ℕ) → given_by c o p ≡ None) → IsTraced (l ++ (o, p) ∷ []) u
+still_traced l s u o p w q e n = record {
+  given = λ c i t h.
+    let k : given (l ++ (o, p) ∷ []) c ≡ given l c = given_more c l o p ∙ (ap (λ z. given l c ++ cons_option z []) (n c) ∙ sym (append_none (given l c))) in
+    subst (λ z. (j : Item) × ((member z c i ≡ Some j) × (j.term ≡ t))) (sym q) (w.given c i t (subst (λ z. numbered i z ≡ Some t) k h));
+  opened = opened_more l o p ∙ (ap (λ z. opened l ++ z) e ∙ (sym (append_none (opened l)) ∙ (w.opened ∙ ap (map (λ k. k.list)) (sym q))));
+}
 
 module _ (decls : List Decl) where
-  -- a list is one of clauses
-  abbrev IsClauses : ℕ → Type 0
-  IsClauses d = holds_of is_clause_list (slice_get decls d) ≡ true
+  opened_traced : (l : Log) (s : Store) (d : ℕ) (p : Tree) → IsTraced l s → IsTraced (l ++ (opens d p, (reply decls (opens d p) s).0) ∷ []) (reply decls (opens d p) s).1
+  opened_traced l s d p w =
+      let k = cursor_over decls d p s.lists.db in
+      let r = (reply decls (opens d p) s).0 in
+      record {
+        given = λ c i t h.
+          let e : given (l ++ (opens d p, r) ∷ []) c ≡ given l c = given_more c l (opens d p) r ∙ sym (append_none (given l c)) in
+          let g = w.given c i t (subst (λ z. numbered i z ≡ Some t) e h) in
+          (g.0, (member_later s.cursors (s.cursors ++ k ∷ []) (extended s.cursors k) c (member_within s.cursors c i g.0 g.1.0) i ∙ g.1.0, g.1.1));
+        opened = opened_more l (opens d p) r ∙ (ap (λ z. z ++ d ∷ []) w.opened ∙ sym (mapped_more s.cursors k));
+      }
 
-  -- A function gives the term of each clause by its id, in the lists and in the cursors, and no id is one of the changes to come.
-  pub record KeepsAll (f : ℕ → Id → Tree) (db : Db) (m : ℕ) (cs : List Cursor) : Type 0 where
-    pub lists : (d : ℕ) → IsClauses d → Each (Keeps f m d) (items db d)
-    pub cursors : (c : ℕ) (k : Cursor) → slice_get cs c ≡ Some k → IsClauses k.list → Each (Keeps f m k.list) k.members
+  next_traced : (l : Log) (s : Store) (c i : ℕ) (o : Option Item) → member s.cursors c i ≡ o → IsTraced l s → IsTraced (l ++ (next c i, told o) ∷ []) s
+  next_traced l s c i None e w = still_traced l s s (next c i) no_item w refl refl (λ d. refl)
+  next_traced l s c i (Some j) e w = record {
+    given = λ d n t h. elim (eqb_tells c d) [
+      | inl q ↦
+          let k : given (l ++ (next c i, item j.term) ∷ []) d ≡ given l d ++ (i, j.term) ∷ [] = given_more d l (next c i) (item j.term) ∙ rw q.0 refl in
+          elim (numbered_behind n (given l d) i j.term t (subst (λ z. numbered n z ≡ Some t) k h)) [
+            | inl a ↦ w.given d n t a
+            | inr a ↦ (j, (subst (λ z. member s.cursors z n ≡ Some j) q.1 (subst (λ z. member s.cursors c z ≡ Some j) a.0 e), a.1))
+          ]
+      | inr q ↦
+          let k : given (l ++ (next c i, item j.term) ∷ []) d ≡ given l d = given_more d l (next c i) (item j.term) ∙ (rw q.0 (sym (append_none (given l d)))) in
+          w.given d n t (subst (λ z. numbered n z ≡ Some t) k h)
+    ];
+    opened = opened_more l (next c i) (item j.term) ∙ (sym (append_none (opened l)) ∙ w.opened);
+  }
 
-  later : (f : ℕ → Id → Tree) (m d : ℕ) (is : List Item) → Each (Keeps f m d) is → Each (Keeps f (1 + m) d) is
-  later f m d is = each_by (Keeps f m d) (Keeps f (1 + m) d) is (λ i e. (e.0, old_later m i.id e.1))
+  same_cursors : (o : Option (Alter Named)) (p : Operation) (s : Store) → (changing decls o p s).1.cursors ≡ s.cursors
+  same_cursors None p s = refl
+  same_cursors (Some c) p s = refl
 
-  -- the next id has a term
-  abbrev with_next : (ℕ → Id → Tree) → ℕ → ℕ → Tree → ℕ → Id → Tree
-  with_next f n m t d a = cond ((d == n) && is_same_id a (next_id m)) t (f d a)
+  reply_traced : (o : Operation) (l : Log) (s : Store) → IsTraced l s → IsTraced (l ++ (o, (reply decls o s).0) ∷ []) (reply decls o s).1
+  reply_traced (opens d p) l s w = opened_traced l s d p w
+  reply_traced (next c i) l s w = next_traced l s c i (member s.cursors c i) refl w
+  reply_traced (insert t) l s w = still_traced l s _ (insert t) _ w refl refl (λ c. refl)
+  reply_traced (delete t) l s w = still_traced l s _ (delete t) _ w refl refl (λ c. refl)
+  reply_traced (assertz t) l s w = still_traced l s _ (assertz t) _ w refl refl (λ c. refl)
+  reply_traced (asserta t) l s w = still_traced l s _ (asserta t) _ w refl refl (λ c. refl)
+  reply_traced (delete_at c i) l s w =
+      still_traced l s (reply decls (delete_at c i) s).1 (delete_at c i) (reply decls (delete_at c i) s).0 w (same_cursors (alter_of s.cursors (delete_at c i)) (delete_at c i) s) refl (λ c. refl)
 
-  others : (f : ℕ → Id → Tree) (n m : ℕ) (t : Tree) (d : ℕ) (is : List Item) → Each (Keeps f m d) is → Each (Keeps (with_next f n m t) (1 + m) d) is
-  others f n m t d is =
-      each_by (Keeps f m d) (Keeps (with_next f n m t) (1 + m) d) is (λ i e. (rw (and_right (d == n) (is_same_id i.id (next_id m)) (old_is_other m i.id e.1)) e.0, old_later m i.id e.1))
+  -- a change is made where it is told
+  abbrev MadeBy : Log → Operation → List Change → Reply → List Change → Type 0
+  MadeBy whole o before r made = made ≡ before ++ cons_option (told_if (is_change r) (told_by whole o)) []
 
-  itself : (f : ℕ → Id → Tree) (n m : ℕ) (t : Tree) (d : ℕ) → d ≡ n → Keeps (with_next f n m t) (1 + m) d (record { id = next_id m; term = t })
-  itself f n m t d e = (rw (eq-eqb d n e, same_itself (next_id m)) refl, omega arith)
-
-  -- a tuple is put into no list of clauses
-  abbrev IsAllowedThere : Alter Named → Type 0
-  IsAllowedThere (puts t) = IsClauses (list_for decls t) → ⊥
-  IsAllowedThere (takes t) = Unit {0}
-  IsAllowedThere (puts_first c) = Unit {0}
-  IsAllowedThere (puts_last c) = Unit {0}
-  IsAllowedThere (drops x) = Unit {0}
-
-  -- lists of which some items were left out
-  fewer : (f : ℕ → Id → Tree) (db : Db) (m n : ℕ) (p : Item → Bool) → ((d : ℕ) → IsClauses d → Each (Keeps f m d) (items db d)) → (d : ℕ) → IsClauses d → Each (Keeps f (1 + m) d) (items (with_items db n (filter p (items db n))) d)
-  fewer f db m n p h d k =
-      items_with (Keeps f (1 + m) d) db n (filter p (items db n)) d
-      (λ e. each_filter (Keeps f (1 + m) d) p (items db n) (subst (λ z. Each (Keeps f (1 + m) d) (items db z)) e (later f m d (items db d) (h d k)))) (later f m d (items db d) (h d k))
-
-  changed_keeps : (c : Alter Named) → IsAllowedThere c → (f : ℕ → Id → Tree) (db : Db) (m : ℕ) (cs : List Cursor) → KeepsAll f db m cs → (g : ℕ → Id → Tree) × KeepsAll g (altered decls (next_id m) c db) (1 + m) cs
-  changed_keeps (puts t) bars f db m cs k = (f, record {
-    lists = λ d h. items_with (Keeps f (1 + m) d) db (list_for decls t) _ d (λ e. absurd (bars (subst IsClauses e h))) (later f m d (items db d) (k.lists d h));
-    cursors = λ c q e h. later f m q.list q.members (k.cursors c q e h);
-  })
-  changed_keeps (takes t) bars f db m cs k = (f, record { lists = fewer f db m (list_for decls t) _ k.lists; cursors = λ c q e h. later f m q.list q.members (k.cursors c q e h) })
-  changed_keeps (puts_first t) bars f db m cs k =
-      let n = list_for decls (head_of t) in
-      let g = with_next f n m t in
-      (g, record {
-        lists = λ d h. items_with (Keeps g (1 + m) d) db n _ d (λ e. (itself f n m t d e, subst (λ z. Each (Keeps g (1 + m) d) (items db z)) e (others f n m t d (items db d) (k.lists d h)))) (others f n m t d (items db d) (k.lists d h));
-        cursors = λ c q e h. others f n m t q.list q.members (k.cursors c q e h);
-      })
-  changed_keeps (puts_last t) bars f db m cs k =
-      let n = list_for decls (head_of t) in
-      let g = with_next f n m t in
-      (g, record {
-        lists = λ d h. items_with (Keeps g (1 + m) d) db n _ d
-          (λ e. each_and_one (Keeps g (1 + m) d) (items db n) (record { id = next_id m; term = t }) (subst (λ z. Each (Keeps g (1 + m) d) (items db z)) e (others f n m t d (items db d) (k.lists d h))) (itself f n m t d e)) (others f n m t d (items db d) (k.lists d h));
-        cursors = λ c q e h. others f n m t q.list q.members (k.cursors c q e h);
-      })
-  changed_keeps (drops x) bars f db m cs k = (f, record { lists = fewer f db m x.list _ k.lists; cursors = λ c q e h. later f m q.list q.members (k.cursors c q e h) })
-
-  -- whether a change was made or not
-  abbrev SomeKeeps : Lists → List Cursor → Type 0
-  SomeKeeps s cs = (g : ℕ → Id → Tree) × KeepsAll g s.db (length s.made) cs
-
-  tests_keep : (full_or_not changes_or_not : Bool) (c : Alter Named) (s : Lists) (cs : List Cursor) → IsAllowedThere c → SomeKeeps s cs
+  tests_made : (full_or_not changes_or_not : Bool) (whole : Log) (o : Operation) (c : Alter Named) (s : Lists) → would_change decls c s.db ≡ changes_or_not
+      → is_change (reply_by o changed) ≡ true → is_change (reply_by o unchanged) ≡ false → (would_change decls c s.db ≡ true → told_by whole o ≡ Some (change_of decls c s.db))
       → (let x : Effect × Lists =
           cond full_or_not (cond changes_or_not (changed, record { db = altered decls (record { place = mine; change = length s.made }) c s.db; made = s.made ++ change_of decls c s.db ∷ [] }) (unchanged, s)) (C.full, s)
-        in SomeKeeps x.1 cs)
-  tests_keep true true c s cs bars k =
-      let h = changed_keeps c bars k.0 s.db (length s.made) cs k.1 in
-      let e : length (s.made ++ change_of decls c s.db ∷ []) ≡ 1 + length s.made = omega (arith, length-append s.made (change_of decls c s.db ∷ [])) in
-      (h.0, subst (λ n. KeepsAll h.0 (altered decls (next_id (length s.made)) c s.db) n cs) (sym e) h.1)
-  tests_keep true false c s cs bars k = k
-  tests_keep false b c s cs bars k = k
+        in MadeBy whole o s.made (reply_by o x.0) x.1.made)
+  tests_made true true whole o c s e h i k = rw (h, k e) refl
+  tests_made true false whole o c s e h i k = rw i (append_none s.made)
+  tests_made false b whole o c s e h i k = full_made o
+    where
+      full_made : (o : Operation) → MadeBy whole o s.made (reply_by o C.full) s.made
+      full_made o = append_none s.made
 
-  alter_keeps : (c : Alter Named) (s : Lists) (cs : List Cursor) → IsAllowedThere c → SomeKeeps s cs → SomeKeeps (alter decls c s).1 cs
-  alter_keeps c s cs bars k = tests_keep (nat_lt (length s.made) most_changes) (would_change decls c s.db) c s cs bars k
-
-  -- a tuple that may be put is one of a relation
-  held : (p : Decl → Bool) (o : Option Decl) → holds_of p o ≡ true → (q : Decl) × ((o ≡ Some q) × (p q ≡ true))
-  held p None e = absurd (cc e)
-  held p (Some q) e = (q, (refl, e))
-
-  not_both : (b : Bool) → b ≡ true → not b ≡ true → ⊥
-  not_both true e h = cc h
-  not_both false e h = cc e
-
-  no_clause_list : (l : Log) (t : Tree) → is_valid_after decls l (insert t) ≡ true → IsClauses (list_for decls t) → ⊥
-  no_clause_list l t v h =
-      let q = held (λ q. is_relation q && is_tuple q t) (declaration_of decls (name_of t) (arity_of t)) v in
-      let w = found decls (name_of t) (arity_of t) q.0 q.1.0 in
-      let r : is_relation q.0 ≡ true = (and_parts (is_relation q.0) (is_tuple q.0 t) q.1.1).0 in
-      let e : list_for decls t ≡ w.1.0 = ap (λ z. unwrap_or z (length decls)) w.1.1.0 in
-      not_both (is_relation q.0) r (subst (λ z. holds_of is_clause_list z ≡ true) w.1.1.1 (subst IsClauses e h))
-
-  -- the cursors with one more
-  last_or : (cs : List Cursor) (k : Cursor) (c : ℕ) (q : Cursor) → slice_get (cs ++ k ∷ []) c ≡ Some q → (slice_get cs c ≡ Some q) ⊎ (k ≡ q)
-  last_or [] k zero q e = inr (cc e)
-  last_or [] k (suc c) q e = absurd (cc e)
-  last_or (x ∷ cs) k zero q e = inl e
-  last_or (x ∷ cs) k (suc c) q e = last_or cs k c q e
-
-  abbrev StoreKeeps : Store → Type 0
-  StoreKeeps s = SomeKeeps s.lists s.cursors
-
-  dropped_keeps : (o : Option (Alter Named)) (p : Operation) (s : Store) → ((c : Alter Named) → o ≡ Some c → IsAllowedThere c) → StoreKeeps s → StoreKeeps (changing decls o p s).1
-  dropped_keeps None p s bars k = k
-  dropped_keeps (Some c) p s bars k = alter_keeps c s.lists s.cursors (bars c refl) k
-
-  drop_allowed : (o : Option Item) (n : ℕ) (c : Alter Named) → option_map (λ j. drops (record { list = n; id = j.id })) o ≡ Some c → IsAllowedThere c
-  drop_allowed None n c e = absurd (cc e)
-  drop_allowed (Some j) n c e = let q : drops (record { list = n; id = j.id }) ≡ c = cc e in subst IsAllowedThere q tt
-
-  reply_keeps : (o : Operation) (l : Log) (s : Store) → is_valid_after decls l o ≡ true → StoreKeeps s → StoreKeeps (reply decls o s).1
-  reply_keeps (opens d p) l s v k = (k.0, record {
-    lists = k.1.lists;
-    cursors = λ c q e h. elim (last_or s.cursors (cursor_over decls d p s.lists.db) c q e) [
-      | inl i ↦ k.1.cursors c q i h
-      | inr i ↦ subst (λ z. IsClauses z.list → Each (Keeps k.0 (length s.lists.made) z.list) z.members) i (λ h. each_filter (Keeps k.0 (length s.lists.made) d) (unifies decls d p) (items s.lists.db d) (k.1.lists d h)) h
-    ];
-  })
-  reply_keeps (next c i) l s v k = k
-  reply_keeps (insert t) l s v k = alter_keeps (puts t) s.lists s.cursors (no_clause_list l t v) k
-  reply_keeps (delete t) l s v k = alter_keeps (takes t) s.lists s.cursors tt k
-  reply_keeps (assertz t) l s v k = alter_keeps (puts_last t) s.lists s.cursors tt k
-  reply_keeps (asserta t) l s v k = alter_keeps (puts_first t) s.lists s.cursors tt k
-  reply_keeps (delete_at c i) l s v k = dropped_keeps (alter_of s.cursors (delete_at c i)) (delete_at c i) s (drop_allowed (member s.cursors c i) (list_under s.cursors c)) k
+  alter_made : (whole : Log) (o : Operation) (c : Alter Named) (s : Lists) → is_change (reply_by o changed) ≡ true → is_change (reply_by o unchanged) ≡ false → (would_change decls c s.db ≡ true → told_by whole o ≡ Some (change_of decls c s.db))
+      → MadeBy whole o s.made (reply_by o (alter decls c s).0) (alter decls c s).1.made
+  alter_made whole o c s = tests_made (nat_lt (length s.made) most_changes) (would_change decls c s.db) whole o c s refl

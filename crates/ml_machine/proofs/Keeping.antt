@@ -124,7 +124,7 @@ module _ (decls : List Decl) where
       not_both (is_relation q.0) r (subst (λ z. holds_of is_clause_list z ≡ true) w.1.1.1 (subst IsClauses e h))
 
   -- the cursors with one more
-  last_or : (cs : List Cursor) (k : Cursor) (c : ℕ) (q : Cursor) → slice_get (cs ++ k ∷ []) c ≡ Some q → (slice_get cs c ≡ Some q) ⊎ (k ≡ q)
+  pub last_or : (cs : List Cursor) (k : Cursor) (c : ℕ) (q : Cursor) → slice_get (cs ++ k ∷ []) c ≡ Some q → (slice_get cs c ≡ Some q) ⊎ (k ≡ q)
   last_or [] k zero q e = inr (cc e)
   last_or [] k (suc c) q e = absurd (cc e)
   last_or (x ∷ cs) k zero q e = inl e

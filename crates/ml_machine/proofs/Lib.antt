@@ -18,3 +18,4 @@ pub mod Ends
 pub mod Ids
 pub mod Keeping
 pub mod Told
+pub mod Plain

@@ -141,7 +141,7 @@ module _ (decls : List Decl) where
   alter_made whole o c s = tests_made (nat_lt (length s.made) most_changes) (would_change decls c s.db) whole o c s refl
 
   -- the cursor of an item
-  cursor_there : (cs : List Cursor) (c i : ℕ) (j : Item) → member cs c i ≡ Some j → (k : Cursor) × (slice_get cs c ≡ Some k) × (slice_get k.members i ≡ Some j) × (list_under cs c ≡ k.list)
+  pub cursor_there : (cs : List Cursor) (c i : ℕ) (j : Item) → member cs c i ≡ Some j → (k : Cursor) × (slice_get cs c ≡ Some k) × (slice_get k.members i ≡ Some j) × (list_under cs c ≡ k.list)
   cursor_there [] c i j e = absurd (cc e)
   cursor_there (k ∷ cs) zero i j e = (k, refl, e, refl)
   cursor_there (k ∷ cs) (suc c) i j e = cursor_there cs c i j e

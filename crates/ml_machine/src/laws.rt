@@ -3,7 +3,7 @@ ghost use Rattle.ml_machine.specs.Asked.{has_replies, has_valid_term};
 ghost use Rattle.ml_machine.specs.Asking.{Asking, asks, begin, concluded, Conclusion, goes, Move, turn};
 ghost use Rattle.ml_machine.specs.Expand.{meant, MoveIsWellFormed};
 ghost use Rattle.ml_machine.specs.Leads.{Begins, IsLed, Leads, LeadsOver, lists_after, lists_told, outcome};
-ghost use Rattle.ml_machine.specs.Weights.{FallsBelow, HasStopped, weight};
+ghost use Rattle.ml_machine.specs.Weights.{FallsBelow, IsBelow, weight};
 ghost use Rattle.ml_search.specs.Db.{Db, is_committed, is_db};
 ghost use Rattle.ml_search.specs.Operations.{is_log, is_valid_after, Log, Operation, Reply};
 ghost use Rattle.ml_search.specs.Program.{Program};
@@ -62,14 +62,20 @@ pub fn what_is_asked_may_be_asked()
         IsLed program goal terms number left l (asks o f) k → has_replies program.decls k ≡ true → has_valid_term o ≡ true → is_valid_after program.decls k o ≡ true }
 {}
 
-/// A search that asks ends over any desk, whatever it replies.
-/// `falls`: a turn, with whatever its reply leads to, lowers the number of inferences left, or keeps it and lowers the weight, as long as items are asked
-/// for by numbers below a bound. An item that doesn't unify uses no inference, and so the bound is what ends it.
-/// `stops`: from every state a desk's replies lead to a conclusion, or to an item asked for by a number that isn't below the bound.
+/// A search that asks ends over any desk, whatever it replies, if its cursors give fewer items than some number.
+/// `falls`: a turn, with whatever its reply leads to, lowers the number of inferences left, or keeps it and lowers the weight, as long as no item is given
+/// by a number that isn't below the bound. An item that doesn't unify uses no inference, and so the bound is what ends it.
+/// `ends`: from every state and log the replies of such a desk lead to a conclusion.
 pub fn a_search_that_asks_ends()
     ensures falls { (program : Program) (most : ℕ) (m : Asking) → FallsBelow most m.left (weight most m) (turn program m) }
-    ensures stops { (program : Program) (desk : Log → Operation → Reply) (most : ℕ) (m : Asking) (l : Log) →
-        (w : Move) × (k : Log) × LeadsOver program desk (goes m) l w k × HasStopped most w }
+    ensures ends { (program : Program) (desk : Log → Operation → Reply) (most : ℕ) → ((l : Log) (o : Operation) → IsBelow most o (desk l o)) →
+        (m : Asking) (l : Log) → (o : Conclusion) × (k : Log) × LeadsOver program desk (goes m) l (concluded o) k }
+{}
+
+/// Over all plain lists, whatever was asked of them before, a search that asks comes to its conclusion, with a longer log whose replies these lists give.
+pub fn plain_lists_lead_to_a_conclusion()
+    ensures { (program : Program) (goal : Tree) (terms : List Tree) (number left : ℕ) (l : Log) (db : Db) → Replays program.decls db l →
+        (o : Conclusion) × (k : Log) × IsLed program goal terms number left l (concluded o) k × Replays program.decls db k }
 {}
 
 /// How a machine goes on from where it stands: by a turn, or by a reply to what is asked, which the log has then.

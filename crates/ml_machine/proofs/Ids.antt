@@ -1,16 +1,15 @@
 -- Ids of stored clauses: each tells its term, in the lists and in the cursors over them.
-use Rattle.std.specs.Prelude.{◌≡◌, ℕ, zero, suc, ◌+◌, ◌<◌, ◌≤◌, ◌==◌, ◌⊎◌, nat_lt, Bool, true, false, ◌&&◌, not, List, [], ◌∷◌, ◌++◌, length, map, slice_get, option_map, unwrap_or, Option, Some, None, cond}
+use Rattle.std.specs.Prelude.{◌≡◌, ℕ, zero, suc, ◌+◌, ◌<◌, ◌==◌, nat_lt, Bool, true, false, not, List, [], ◌∷◌, ◌++◌, map, slice_get, Some, cond}
 use Rattle.std.specs.Option.{option_map_or}
 use Rattle.std.specs.List.{filter, list_all, list_any}
 use Rattle.std.specs.declared.cmp.Ordering.{Ordering}
 use Rattle.std.specs.declared.cmp.Ordering.TheVariants.{Less, Equal, Greater}
 use Rattle.std.specs.Ordering.{nat_cmp, ordering_then}
-use Rattle.std.proofs.Common.{inl, inr, refl, sym, ap, ◌∙◌, subst, arith}
+use Rattle.std.proofs.Common.{refl, sym, ap, ◌∙◌, subst, arith}
 use Rattle.std.proofs.lemmas.Bool.{and_parts, or_parts, not-true, eqb-true, eq-eqb, le-ltb}
-use Rattle.std.proofs.lemmas.Bool.Decides.{eqb_tells}
 use Rattle.ml_term.specs.Tree.{Tree}
 use Rattle.ml_search.specs.Program.{true_body}
-use Rattle.ml_search.specs.Db.{Place, at, mine, Id, Item, Db, is_same_id, is_equal, place_cmp, id_cmp, items, with_items, with_id, ids_differ, is_placed}
+use Rattle.ml_search.specs.Db.{Place, at, mine, Id, Item, Db, is_same_id, is_equal, place_cmp, items, with_items, with_id, ids_differ, is_placed}
 
 -- this holds of each item
 abbrev pub Each : (Item → Type 0) → List Item → Type 0
@@ -130,8 +129,7 @@ each_both P Q (i ∷ is) e f = ((e.0, f.0), each_both P Q is e.1 f.1)
 each_found : (is : List Item) → ids_differ (map (λ i. i.id) is) ≡ true → Each (λ i. with_id i.id is ≡ Some i) is
 each_found [] h = tt
 each_found (i ∷ is) h =
-    let p = and_parts (not (list_any (is_same_id i.id) (map (λ i. i.id) is))) (ids_differ (map (λ i. i.id) is)) h in
-    (
+    let p = and_parts (not (list_any (is_same_id i.id) (map (λ i. i.id) is))) (ids_differ (map (λ i. i.id) is)) h in (
       rw (same_itself i.id) refl,
       each_by (λ j. (is_same_id i.id j.id ≡ false) × (with_id j.id is ≡ Some j)) (λ j. with_id j.id (i ∷ is) ≡ Some j) is (λ j e. rw e.0 e.1)
           (each_both (λ j. is_same_id i.id j.id ≡ false) (λ j. with_id j.id is ≡ Some j) is (none_same i.id is (not-true _ p.0)) (each_found is p.1)),

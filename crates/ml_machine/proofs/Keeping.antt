@@ -1,31 +1,20 @@
 -- Along a log, a function gives the term of each stored clause by its id, in the lists and in the cursors.
-use Rattle.std.specs.Prelude.{◌≡◌, ℕ, zero, suc, ◌+◌, ◌<◌, ◌≤◌, ◌==◌, ◌⊎◌, nat_lt, Bool, true, false, ◌&&◌, not, List, [], ◌∷◌, ◌++◌, length, map, drop, slice_get, unwrap_or, Option, Some, None, is_some, cond}
-use Rattle.std.specs.Option.{option_map, option_map_or, option_and_then}
-use Rattle.std.specs.List.{filter, filter_map, cons_option, list_all}
-use Rattle.std.proofs.Common.{inl, inr, refl, sym, ap, ◌∙◌, subst, arith, length-append, append_assoc}
-use Rattle.std.proofs.lemmas.Bool.{and_parts, and_right, eqb-true, eq-eqb}
-use Rattle.std.proofs.lemmas.Bool.Decides.{eqb_tells}
-use Rattle.std.proofs.lemmas.Option.{slice_get-map}
+use Rattle.std.specs.Prelude.{◌≡◌, ℕ, zero, suc, ◌+◌, ◌==◌, ◌⊎◌, nat_lt, Bool, true, false, ◌&&◌, not, List, [], ◌∷◌, ◌++◌, length, slice_get, unwrap_or, Option, Some, None, cond}
+use Rattle.std.specs.Option.{option_map}
+use Rattle.std.specs.List.{filter}
+use Rattle.std.proofs.Common.{inl, inr, refl, sym, ap, subst, arith, length-append}
+use Rattle.std.proofs.lemmas.Bool.{and_parts, and_right, eq-eqb}
 use Rattle.ml_term.specs.Tree.{Tree}
 use Rattle.ml_term.specs.declared.declaration.Decl.{Decl}
-use Rattle.ml_term.specs.declared.declaration.Kind.{Kind}
-use Rattle.ml_term.specs.declared.declaration.Kind.TheVariants.{Relation, Clauses}
-use Rattle.ml_search.specs.declared.change.What.TheVariants.{Put, Taken, First, Last, Dropped}
 use Rattle.ml_search.specs.Limits.{most_changes}
-use Rattle.ml_search.specs.Program.{name_of, arity_of, place_of, declaration_of, holds_of, is_relation, is_clause_list, true_body}
-use Rattle.ml_search.specs.Db.{mine, Id, Item, Db, is_same_id, items, with_items, head_of, with_id, ids_differ, is_placed, is_allowed, is_list_of, is_tuple, is_db, is_committed}
+use Rattle.ml_search.specs.Program.{name_of, arity_of, declaration_of, holds_of, is_relation, is_clause_list}
+use Rattle.ml_search.specs.Db.{mine, Id, Item, Db, is_same_id, items, with_items, head_of, is_tuple}
 use Rattle.ml_search.specs.Changes.{Change, Lists, Named, Alter, puts, takes, puts_first, puts_last, drops, Effect, changed, unchanged, list_for, without_term, without_id, altered, would_change, change_of, alter}
 use Rattle.ml_search.specs.Changes as C
-use Rattle.ml_search.specs.Operations.{Operation, opens, next, insert, delete, assertz, asserta, delete_at, Reply, cursor, item, no_item, added, present, removed, absent, full, Log, opened, given_by, given, numbered, item_given, declared_of, is_valid_after, is_log_from, is_log}
-use Rattle.ml_search.specs.Told.{is_change, told_by, told_if, told_of}
-use Rattle.ml_search.specs.Replay.{Cursor, Store, told, member, list_under, unifies, cursor_over, alter_of, reply_by, changing, reply, begun, Replays}
-use Rattle.ml_machine.specs.Leads.{lists_after}
-use Rattle.ml_machine.proofs.Heights.{Extends, member_within, member_later}
+use Rattle.ml_search.specs.Operations.{Operation, opens, next, insert, delete, assertz, asserta, delete_at, Log, is_valid_after}
+use Rattle.ml_search.specs.Replay.{Cursor, Store, member, list_under, unifies, cursor_over, alter_of, changing, reply}
 use Rattle.ml_machine.proofs.KnownGoals.{found}
-use Rattle.ml_machine.proofs.Turns.{extended}
-use Rattle.ml_machine.proofs.Law.{append_none, after_from, after, ReplaysFrom, first_reply}
-use Rattle.ml_machine.proofs.Asks.{opened_by, opened_more, given_more, consed}
-use Rattle.ml_machine.proofs.Ids.{Each, each_by, each_filter, each_and_one, each_at, items_with, same_itself, found_id, IsOld, next_id, old_later, old_is_other, Keeps, term_in, each_keeps}
+use Rattle.ml_machine.proofs.Ids.{Each, each_by, each_filter, each_and_one, items_with, same_itself, next_id, old_later, old_is_other, Keeps}
 
 module _ (decls : List Decl) where
   -- a list is one of clauses
@@ -66,26 +55,33 @@ module _ (decls : List Decl) where
       (λ e. each_filter (Keeps f (1 + m) d) p (items db n) (subst (λ z. Each (Keeps f (1 + m) d) (items db z)) e (later f m d (items db d) (h d k)))) (later f m d (items db d) (h d k))
 
   changed_keeps : (c : Alter Named) → IsAllowedThere c → (f : ℕ → Id → Tree) (db : Db) (m : ℕ) (cs : List Cursor) → KeepsAll f db m cs → (g : ℕ → Id → Tree) × KeepsAll g (altered decls (next_id m) c db) (1 + m) cs
-  changed_keeps (puts t) bars f db m cs k = (f, record {
-    lists = λ d h. items_with (Keeps f (1 + m) d) db (list_for decls t) _ d (λ e. absurd (bars (subst IsClauses e h))) (later f m d (items db d) (k.lists d h));
-    cursors = λ c q e h. later f m q.list q.members (k.cursors c q e h);
-  })
+  changed_keeps (puts t) bars f db m cs k = (
+    f,
+    record {
+      lists = λ d h. items_with (Keeps f (1 + m) d) db (list_for decls t) _ d (λ e. absurd (bars (subst IsClauses e h))) (later f m d (items db d) (k.lists d h));
+      cursors = λ c q e h. later f m q.list q.members (k.cursors c q e h);
+    },
+  )
   changed_keeps (takes t) bars f db m cs k = (f, record { lists = fewer f db m (list_for decls t) _ k.lists; cursors = λ c q e h. later f m q.list q.members (k.cursors c q e h) })
   changed_keeps (puts_first t) bars f db m cs k =
       let n = list_for decls (head_of t) in
-      let g = with_next f n m t in
-      (g, record {
-        lists = λ d h. items_with (Keeps g (1 + m) d) db n _ d (λ e. (itself f n m t d e, subst (λ z. Each (Keeps g (1 + m) d) (items db z)) e (others f n m t d (items db d) (k.lists d h)))) (others f n m t d (items db d) (k.lists d h));
-        cursors = λ c q e h. others f n m t q.list q.members (k.cursors c q e h);
-      })
+      let g = with_next f n m t in (
+        g,
+        record {
+          lists = λ d h. items_with (Keeps g (1 + m) d) db n _ d (λ e. (itself f n m t d e, subst (λ z. Each (Keeps g (1 + m) d) (items db z)) e (others f n m t d (items db d) (k.lists d h)))) (others f n m t d (items db d) (k.lists d h));
+          cursors = λ c q e h. others f n m t q.list q.members (k.cursors c q e h);
+        },
+      )
   changed_keeps (puts_last t) bars f db m cs k =
       let n = list_for decls (head_of t) in
-      let g = with_next f n m t in
-      (g, record {
-        lists = λ d h. items_with (Keeps g (1 + m) d) db n _ d
-          (λ e. each_and_one (Keeps g (1 + m) d) (items db n) (record { id = next_id m; term = t }) (subst (λ z. Each (Keeps g (1 + m) d) (items db z)) e (others f n m t d (items db d) (k.lists d h))) (itself f n m t d e)) (others f n m t d (items db d) (k.lists d h));
-        cursors = λ c q e h. others f n m t q.list q.members (k.cursors c q e h);
-      })
+      let g = with_next f n m t in (
+        g,
+        record {
+          lists = λ d h. items_with (Keeps g (1 + m) d) db n _ d
+              (λ e. each_and_one (Keeps g (1 + m) d) (items db n) (record { id = next_id m; term = t }) (subst (λ z. Each (Keeps g (1 + m) d) (items db z)) e (others f n m t d (items db d) (k.lists d h))) (itself f n m t d e)) (others f n m t d (items db d) (k.lists d h));
+          cursors = λ c q e h. others f n m t q.list q.members (k.cursors c q e h);
+        },
+      )
   changed_keeps (drops x) bars f db m cs k = (f, record { lists = fewer f db m x.list _ k.lists; cursors = λ c q e h. later f m q.list q.members (k.cursors c q e h) })
 
   -- whether a change was made or not
@@ -94,8 +90,8 @@ module _ (decls : List Decl) where
 
   tests_keep : (full_or_not changes_or_not : Bool) (c : Alter Named) (s : Lists) (cs : List Cursor) → IsAllowedThere c → SomeKeeps s cs
       → (let x : Effect × Lists =
-          cond full_or_not (cond changes_or_not (changed, record { db = altered decls (record { place = mine; change = length s.made }) c s.db; made = s.made ++ change_of decls c s.db ∷ [] }) (unchanged, s)) (C.full, s)
-        in SomeKeeps x.1 cs)
+      cond full_or_not (cond changes_or_not (changed, record { db = altered decls (record { place = mine; change = length s.made }) c s.db; made = s.made ++ change_of decls c s.db ∷ [] }) (unchanged, s)) (C.full, s)
+      in SomeKeeps x.1 cs)
   tests_keep true true c s cs bars k =
       let h = changed_keeps c bars k.0 s.db (length s.made) cs k.1 in
       let e : length (s.made ++ change_of decls c s.db ∷ []) ≡ 1 + length s.made = omega (arith, length-append s.made (change_of decls c s.db ∷ [])) in
@@ -142,13 +138,16 @@ module _ (decls : List Decl) where
   drop_allowed (Some j) n c e = let q : drops (record { list = n; id = j.id }) ≡ c = cc e in subst IsAllowedThere q tt
 
   pub reply_keeps : (o : Operation) (l : Log) (s : Store) → is_valid_after decls l o ≡ true → StoreKeeps s → StoreKeeps (reply decls o s).1
-  reply_keeps (opens d p) l s v k = (k.0, record {
-    lists = k.1.lists;
-    cursors = λ c q e h. elim (last_or s.cursors (cursor_over decls d p s.lists.db) c q e) [
-      | inl i ↦ k.1.cursors c q i h
-      | inr i ↦ subst (λ z. IsClauses z.list → Each (Keeps k.0 (length s.lists.made) z.list) z.members) i (λ h. each_filter (Keeps k.0 (length s.lists.made) d) (unifies decls d p) (items s.lists.db d) (k.1.lists d h)) h
-    ];
-  })
+  reply_keeps (opens d p) l s v k = (
+    k.0,
+    record {
+      lists = k.1.lists;
+      cursors = λ c q e h. elim (last_or s.cursors (cursor_over decls d p s.lists.db) c q e) [
+        | inl i ↦ k.1.cursors c q i h
+        | inr i ↦ subst (λ z. IsClauses z.list → Each (Keeps k.0 (length s.lists.made) z.list) z.members) i (λ h. each_filter (Keeps k.0 (length s.lists.made) d) (unifies decls d p) (items s.lists.db d) (k.1.lists d h)) h
+      ];
+    },
+  )
   reply_keeps (next c i) l s v k = k
   reply_keeps (insert t) l s v k = alter_keeps (puts t) s.lists s.cursors (no_clause_list l t v) k
   reply_keeps (delete t) l s v k = alter_keeps (takes t) s.lists s.cursors tt k

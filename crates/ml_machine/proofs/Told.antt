@@ -1,8 +1,8 @@
 -- The list of changes of plain lists is what a log tells of them, where they give the log's replies.
-use Rattle.std.specs.Prelude.{◌≡◌, ℕ, zero, suc, ◌+◌, ◌<◌, ◌==◌, ◌⊎◌, nat_lt, Bool, true, false, ◌&&◌, not, List, [], ◌∷◌, ◌++◌, length, map, drop, slice_get, unwrap_or, Option, Some, None, is_some, cond}
+use Rattle.std.specs.Prelude.{◌≡◌, ℕ, zero, suc, ◌==◌, ◌⊎◌, nat_lt, Bool, true, false, ◌&&◌, List, [], ◌∷◌, ◌++◌, length, map, drop, slice_get, unwrap_or, Option, Some, None, is_some, cond}
 use Rattle.std.specs.Option.{option_map, option_map_or, option_and_then}
 use Rattle.std.specs.List.{filter_map, cons_option, list_all}
-use Rattle.std.proofs.Common.{inl, inr, refl, sym, ap, ◌∙◌, subst, arith, append_assoc}
+use Rattle.std.proofs.Common.{inl, inr, refl, sym, ap, ◌∙◌, subst, append_assoc}
 use Rattle.std.proofs.lemmas.Bool.{and_parts, and_from, eqb-true}
 use Rattle.std.proofs.lemmas.Bool.Decides.{eqb_tells}
 use Rattle.std.proofs.lemmas.Option.{slice_get-map}
@@ -13,10 +13,10 @@ use Rattle.ml_term.specs.declared.declaration.Kind.TheVariants.{Relation, Clause
 use Rattle.ml_search.specs.declared.change.What.TheVariants.{Dropped}
 use Rattle.ml_search.specs.Limits.{most_changes}
 use Rattle.ml_search.specs.Program.{Program, holds_of, is_clause_list, true_body}
-use Rattle.ml_search.specs.Db.{mine, Id, Item, Db, items, with_id, ids_differ, is_placed, is_allowed, is_in_clause_order, is_list_of, is_db, is_committed}
+use Rattle.ml_search.specs.Db.{mine, Item, Db, items, with_id, ids_differ, is_placed, is_allowed, is_in_clause_order, is_list_of, is_db, is_committed}
 use Rattle.ml_search.specs.Changes.{Change, Lists, Named, Alter, puts, takes, puts_first, puts_last, drops, Effect, changed, unchanged, altered, would_change, change_of, alter}
 use Rattle.ml_search.specs.Changes as C
-use Rattle.ml_search.specs.Operations.{Operation, opens, next, insert, delete, assertz, asserta, delete_at, Reply, cursor, item, no_item, added, present, removed, absent, full, Log, opened, given_by, given, numbered, item_given, declared_of, is_valid_after, is_reply_after, is_log_from, is_log}
+use Rattle.ml_search.specs.Operations.{Operation, opens, next, insert, delete, assertz, asserta, delete_at, Reply, item, no_item, Log, opened, given_by, given, numbered, item_given, declared_of, is_valid_after, is_reply_after, is_log_from, is_log}
 use Rattle.ml_search.specs.Told.{is_change, told_by, told_if, told_of}
 use Rattle.ml_search.specs.Replay.{Cursor, Store, told, member, list_under, cursor_over, alter_of, reply_by, changing, reply, begun, Replays}
 use Rattle.ml_search.specs.Search.{search_of}
@@ -29,8 +29,8 @@ use Rattle.ml_machine.proofs.Law.{append_none, after_from, ReplaysFrom, first_re
 use Rattle.ml_machine.proofs.Answers.{answers_so_far}
 use Rattle.ml_machine.proofs.Validity.{longer}
 use Rattle.ml_machine.proofs.Asks.{opened_by, opened_more, given_more, consed}
-use Rattle.ml_machine.proofs.Ids.{Each, each_at, found_id, Keeps, term_in, each_keeps}
-use Rattle.ml_machine.proofs.Keeping.{IsClauses, KeepsAll, StoreKeeps, reply_keeps, held}
+use Rattle.ml_machine.proofs.Ids.{each_at, found_id, Keeps, term_in, each_keeps}
+use Rattle.ml_machine.proofs.Keeping.{IsClauses, StoreKeeps, reply_keeps, held}
 
 -- numbered items with more behind them
 numbered_front : (i : ℕ) (es fs : List (ℕ × Tree)) (t : Tree) → numbered i es ≡ Some t → numbered i (es ++ fs) ≡ Some t
@@ -71,8 +71,8 @@ pub record IsTraced (l : Log) (s : Store) : Type 0 where
 still_traced : (l : Log) (s u : Store) (o : Operation) (p : Reply) → IsTraced l s → u.cursors ≡ s.cursors → opened_by o ≡ [] → ((c : ℕ) → given_by c o p ≡ None) → IsTraced (l ++ (o, p) ∷ []) u
 still_traced l s u o p w q e n = record {
   given = λ c i t h.
-    let k : given (l ++ (o, p) ∷ []) c ≡ given l c = given_more c l o p ∙ (ap (λ z. given l c ++ cons_option z []) (n c) ∙ sym (append_none (given l c))) in
-    subst (λ z. (j : Item) × ((member z c i ≡ Some j) × (j.term ≡ t))) (sym q) (w.given c i t (subst (λ z. numbered i z ≡ Some t) k h));
+      let k : given (l ++ (o, p) ∷ []) c ≡ given l c = given_more c l o p ∙ (ap (λ z. given l c ++ cons_option z []) (n c) ∙ sym (append_none (given l c))) in
+      subst (λ z. (j : Item) × ((member z c i ≡ Some j) × (j.term ≡ t))) (sym q) (w.given c i t (subst (λ z. numbered i z ≡ Some t) k h));
   opened = opened_more l o p ∙ (ap (λ z. opened l ++ z) e ∙ (sym (append_none (opened l)) ∙ (w.opened ∙ ap (map (λ k. k.list)) (sym q))));
 }
 
@@ -83,9 +83,9 @@ module _ (decls : List Decl) where
       let r = (reply decls (opens d p) s).0 in
       record {
         given = λ c i t h.
-          let e : given (l ++ (opens d p, r) ∷ []) c ≡ given l c = given_more c l (opens d p) r ∙ sym (append_none (given l c)) in
-          let g = w.given c i t (subst (λ z. numbered i z ≡ Some t) e h) in
-          (g.0, (member_later s.cursors (s.cursors ++ k ∷ []) (extended s.cursors k) c (member_within s.cursors c i g.0 g.1.0) i ∙ g.1.0, g.1.1));
+            let e : given (l ++ (opens d p, r) ∷ []) c ≡ given l c = given_more c l (opens d p) r ∙ sym (append_none (given l c)) in
+            let g = w.given c i t (subst (λ z. numbered i z ≡ Some t) e h) in
+            (g.0, (member_later s.cursors (s.cursors ++ k ∷ []) (extended s.cursors k) c (member_within s.cursors c i g.0 g.1.0) i ∙ g.1.0, g.1.1));
         opened = opened_more l (opens d p) r ∙ (ap (λ z. z ++ d ∷ []) w.opened ∙ sym (mapped_more s.cursors k));
       }
 
@@ -127,8 +127,8 @@ module _ (decls : List Decl) where
   tests_made : (full_or_not changes_or_not : Bool) (whole : Log) (o : Operation) (c : Alter Named) (s : Lists) → would_change decls c s.db ≡ changes_or_not
       → is_change (reply_by o changed) ≡ true → is_change (reply_by o unchanged) ≡ false → (would_change decls c s.db ≡ true → told_by whole o ≡ Some (change_of decls c s.db))
       → (let x : Effect × Lists =
-          cond full_or_not (cond changes_or_not (changed, record { db = altered decls (record { place = mine; change = length s.made }) c s.db; made = s.made ++ change_of decls c s.db ∷ [] }) (unchanged, s)) (C.full, s)
-        in MadeBy whole o s.made (reply_by o x.0) x.1.made)
+      cond full_or_not (cond changes_or_not (changed, record { db = altered decls (record { place = mine; change = length s.made }) c s.db; made = s.made ++ change_of decls c s.db ∷ [] }) (unchanged, s)) (C.full, s)
+      in MadeBy whole o s.made (reply_by o x.0) x.1.made)
   tests_made true true whole o c s e h i k = rw (h, k e) refl
   tests_made true false whole o c s e h i k = rw i (append_none s.made)
   tests_made false b whole o c s e h i k = full_made o
@@ -171,15 +171,15 @@ module _ (decls : List Decl) where
       let mine_term : f k.0.list j.id ≡ j.term = (each_at (Keeps f m k.0.list) k.0.members i j k.2 (keeps.1.cursors c k.0 k.1 clauses)).0 in
       let same : is_some (with_id j.id (items s.lists.db n)) ≡ true → told_by (l ++ more) (delete_at c i) ≡ Some (record { what = Dropped; term = option_map_or (λ i. i.term) (with_id j.id (items s.lists.db n)) true_body }) =
       λ h.
-          let x = some_of (with_id j.id (items s.lists.db n)) h in
-          let y = found_id (Keeps f m k.0.list) j.id (items s.lists.db k.0.list) x.0 (subst (λ z. with_id j.id (items s.lists.db z) ≡ Some x.0) k.3 x.1) (keeps.1.lists k.0.list clauses) in
-          let e : j.term ≡ x.0.term = sym mine_term ∙ (ap (f k.0.list) (sym y.1) ∙ y.0.0) in
-          ap (λ z. Some (record { what = Dropped; term = z }))
-          (ap (λ z. unwrap_or z true_body) (given_front l more c i t.0 t.1) ∙ (sym g.1.1 ∙ (e ∙ sym (ap (λ z. option_map_or (λ i. i.term) z true_body) x.1)))) in
+      let x = some_of (with_id j.id (items s.lists.db n)) h in
+      let y = found_id (Keeps f m k.0.list) j.id (items s.lists.db k.0.list) x.0 (subst (λ z. with_id j.id (items s.lists.db z) ≡ Some x.0) k.3 x.1) (keeps.1.lists k.0.list clauses) in
+      let e : j.term ≡ x.0.term = sym mine_term ∙ (ap (f k.0.list) (sym y.1) ∙ y.0.0) in
+      ap (λ z. Some (record { what = Dropped; term = z }))
+      (ap (λ z. unwrap_or z true_body) (given_front l more c i t.0 t.1) ∙ (sym g.1.1 ∙ (e ∙ sym (ap (λ z. option_map_or (λ i. i.term) z true_body) x.1)))) in
       subst
       (λ z.
-          let q : Reply × Store = changing decls (option_map (λ j. drops (record { list = n; id = j.id })) z) (delete_at c i) s in
-          MadeBy (l ++ more) (delete_at c i) s.lists.made q.0 q.1.lists.made) (sym g.1.0)
+      let q : Reply × Store = changing decls (option_map (λ j. drops (record { list = n; id = j.id })) z) (delete_at c i) s in
+      MadeBy (l ++ more) (delete_at c i) s.lists.made q.0 q.1.lists.made) (sym g.1.0)
       (alter_made (l ++ more) (delete_at c i) (drops (record { list = n; id = j.id })) s.lists refl refl same)
 
   reply_made : (o : Operation) (l more : Log) (s : Store) → is_valid_after decls l o ≡ true → StoreKeeps decls s → IsTraced l s → MadeBy (l ++ more) o s.lists.made (reply decls o s).0 (reply decls o s).1.lists.made
@@ -238,12 +238,14 @@ module _ (decls : List Decl) where
   -- lists without uncommitted items keep what a log tells of their changes
   pub made_is_told : (db : Db) (l : Log) → is_db decls db ≡ true → is_committed db ≡ true → is_log decls l ≡ true → Replays decls db l → (lists_after decls db l).made ≡ told_of l
   made_is_told db l h p v r =
-      told_from l [] (begun decls db) r v
-      (term_in db, record {
-        lists = λ d c. let q = held decls is_clause_list (slice_get decls d) c in
-          each_keeps db d (ids_of_list q.0 q.0.kind (items db d) refl q.1.1 (list_there decls db d q.0 h q.1.0)) (placed_there db d p);
-        cursors = λ c k e x. absurd (cc e);
-      })
+      told_from l [] (begun decls db) r v (
+        term_in db,
+        record {
+          lists = λ d c. let q = held decls is_clause_list (slice_get decls d) c in
+              each_keeps db d (ids_of_list q.0 q.0.kind (items db d) refl q.1.1 (list_there decls db d q.0 h q.1.0)) (placed_there db d p);
+          cursors = λ c k e x. absurd (cc e);
+        },
+      )
       (record { given = λ c i t e. absurd (cc e); opened = refl })
 
   -- a beginning of a log

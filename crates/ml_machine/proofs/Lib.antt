@@ -19,3 +19,4 @@ pub mod Ids
 pub mod Keeping
 pub mod Told
 pub mod Plain
+pub mod Logs

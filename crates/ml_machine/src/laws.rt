@@ -5,7 +5,7 @@ ghost use Rattle.ml_machine.specs.Expand.{meant, MoveIsWellFormed};
 ghost use Rattle.ml_machine.specs.Leads.{Begins, IsLed, Leads, LeadsOver, lists_after, lists_told, outcome};
 ghost use Rattle.ml_machine.specs.Weights.{FallsBelow, IsBelow, weight};
 ghost use Rattle.ml_search.specs.Db.{Db, is_committed, is_db};
-ghost use Rattle.ml_search.specs.Operations.{is_log, is_valid_after, Log, Operation, Reply};
+ghost use Rattle.ml_search.specs.Operations.{is_log, is_reply_after, is_valid_after, Log, Operation, Reply};
 ghost use Rattle.ml_search.specs.Program.{Program};
 ghost use Rattle.ml_search.specs.Replay.{begun, Replays, Store, store_after};
 ghost use Rattle.ml_search.specs.Search.{search_of};
@@ -57,9 +57,13 @@ pub fn a_move_keeps_what_it_comes_to()
 {}
 
 /// Each operation that is asked may be asked after the log, over any replies of their kinds, if its term, where it has one, is a term of the language.
+/// `replies`, `grows`: a log has replies of their kinds, and stays one with such an operation and a reply of its kind.
 pub fn what_is_asked_may_be_asked()
-    ensures { (program : Program) (goal : Tree) (terms : List Tree) (number left : ℕ) (l k : Log) (o : Operation) (f : Reply → Move) →
+    ensures asked { (program : Program) (goal : Tree) (terms : List Tree) (number left : ℕ) (l k : Log) (o : Operation) (f : Reply → Move) →
         IsLed program goal terms number left l (asks o f) k → has_replies program.decls k ≡ true → has_valid_term o ≡ true → is_valid_after program.decls k o ≡ true }
+    ensures replies { (decls : List Decl) (l : Log) → is_log decls l ≡ true → has_replies decls l ≡ true }
+    ensures grows { (decls : List Decl) (l : Log) (o : Operation) (p : Reply) → is_log decls l ≡ true →
+        is_valid_after decls l o ≡ true → is_reply_after decls l o p ≡ true → is_log decls (l ++ (o, p) ∷ []) ≡ true }
 {}
 
 /// A search that asks ends over any desk, whatever it replies, if its cursors give fewer items than some number.

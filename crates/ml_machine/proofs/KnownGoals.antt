@@ -1,6 +1,6 @@
 -- What is known of a goal that is no control construct: which list it means, and what its checks leave.
-use Rattle.std.specs.Prelude.{◌≡◌, ℕ, zero, suc, Bool, true, false, not, List, [], ◌∷◌, length, find, slice_get, Option, Some, None, option_map, unwrap_or, cond, codes}
-use Rattle.std.proofs.Common.{refl, ap, sym, ◌∙◌, subst}
+use Rattle.std.specs.Prelude.{◌≡◌, ℕ, suc, Bool, true, false, not, List, [], ◌∷◌, length, slice_get, Option, Some, None, option_map, unwrap_or, cond}
+use Rattle.std.proofs.Common.{refl, ap, subst}
 use Rattle.ml_term.specs.Tree.{Tree, is_ground, renamed}
 use Rattle.ml_term.specs.declared.declaration.Decl.{Decl}
 use Rattle.ml_term.specs.declared.declaration.Kind.{Kind}

@@ -15,3 +15,8 @@ pub mod Allowed
 pub mod Asks
 pub mod Validity
 pub mod Ends
+pub mod Ids
+pub mod Keeping
+pub mod Told
+pub mod Plain
+pub mod Logs

@@ -2,35 +2,49 @@
 ghost use Rattle.ml_machine.specs.Asked.{has_replies, has_valid_term};
 ghost use Rattle.ml_machine.specs.Asking.{Asking, asks, begin, concluded, Conclusion, goes, Move, turn};
 ghost use Rattle.ml_machine.specs.Expand.{meant, MoveIsWellFormed};
-ghost use Rattle.ml_machine.specs.Leads.{Begins, IsLed, Leads, LeadsOver, lists_after, outcome};
-ghost use Rattle.ml_machine.specs.Weights.{FallsBelow, HasStopped, weight};
-ghost use Rattle.ml_search.specs.Db.{Db, mine};
-ghost use Rattle.ml_search.specs.Operations.{is_valid_after, Log, Operation, Reply};
+ghost use Rattle.ml_machine.specs.Leads.{Begins, IsLed, Leads, LeadsOver, lists_after, lists_told, outcome};
+ghost use Rattle.ml_machine.specs.Weights.{FallsBelow, IsBelow, weight};
+ghost use Rattle.ml_search.specs.Db.{Db, is_committed, is_db};
+ghost use Rattle.ml_search.specs.Operations.{is_log, is_reply_after, is_valid_after, Log, Operation, Reply};
 ghost use Rattle.ml_search.specs.Program.{Program};
-ghost use Rattle.ml_search.specs.Replay.{begun, changed_by, Replays, Store, store_after};
+ghost use Rattle.ml_search.specs.Replay.{begun, Replays, Store, store_after};
 ghost use Rattle.ml_search.specs.Search.{search_of};
 ghost use Rattle.ml_term.specs.Tree.{Tree};
+ghost use Rattle.ml_term.specs.declared.declaration.Decl.{Decl};
 ghost use Rattle.std.specs.Prelude.{◌++◌, ◌∷◌, ◌≡◌, [], List, map, true, ℕ};
 
 /// Whatever a desk told: where its replies led a search from a log to its conclusion and a longer log, take any lists that give the longer log's replies.
 /// `same`: the search over these lists, as they are after the log before, has the same answers, end and inferences left, and leaves the lists with the
 /// list of changes as they are after the longer log.
-/// `changed`: these lists are those that the log's changes make.
+/// `told`: if no item of the lists is uncommitted, and each operation of the log may be asked and has its reply, they are the lists and changes that the
+/// log tells of.
 pub fn a_search_that_asks_is_the_search()
     ensures same { (program : Program) (goal : Tree) (terms : List Tree) (number left : ℕ) (l k : Log) (o : Conclusion) →
         IsLed program goal terms number left l (concluded o) k → (db : Db) → Replays program.decls db k →
         search_of program goal terms number (lists_after program.decls db l) left ≡ outcome o (lists_after program.decls db k) }
-    ensures changed { (program : Program) (goal : Tree) (terms : List Tree) (number left : ℕ) (l k : Log) (o : Conclusion) →
-        IsLed program goal terms number left l (concluded o) k → (db : Db) → Replays program.decls db k →
-        ((lists_after program.decls db l).db ≡ changed_by program.decls db l mine) × ((lists_after program.decls db k).db ≡ changed_by program.decls db k mine) }
+    ensures told { (program : Program) (goal : Tree) (terms : List Tree) (number left : ℕ) (l k : Log) (o : Conclusion) →
+        IsLed program goal terms number left l (concluded o) k →
+        (db : Db) → is_db program.decls db ≡ true → is_committed db ≡ true → is_log program.decls k ≡ true → Replays program.decls db k →
+        search_of program goal terms number (lists_told program.decls db l) left ≡ outcome o (lists_told program.decls db k) }
 {}
 
 /// A search that is stopped while no `findall/3` is open: the answers found so far are the first answers of the search over all lists that give the
-/// log's replies. So one is stopped at its first answer, or where its answers pass a limit.
+/// log's replies. So one is stopped at its first answer, or where its answers pass a limit. `told`: the lists before are those that the log tells of.
 pub fn answers_so_far_are_the_first()
-    ensures { (program : Program) (goal : Tree) (terms : List Tree) (number left : ℕ) (l k : Log) (m : Asking) → m.outer ≡ [] →
+    ensures same { (program : Program) (goal : Tree) (terms : List Tree) (number left : ℕ) (l k : Log) (m : Asking) → m.outer ≡ [] →
         IsLed program goal terms number left l (goes m) k → (db : Db) → Replays program.decls db k →
         Begins m.found (search_of program goal terms number (lists_after program.decls db l) left).found }
+    ensures told { (program : Program) (goal : Tree) (terms : List Tree) (number left : ℕ) (l k : Log) (m : Asking) → m.outer ≡ [] →
+        IsLed program goal terms number left l (goes m) k →
+        (db : Db) → is_db program.decls db ≡ true → is_committed db ≡ true → is_log program.decls k ≡ true → Replays program.decls db k →
+        Begins m.found (search_of program goal terms number (lists_told program.decls db l) left).found }
+{}
+
+/// Where lists without uncommitted items give the replies of a log, and each of its operations may be asked and has its reply, the lists and the list of
+/// changes after it are those that the log tells of: what a clause taken out by its cursor was, is what the cursor gave.
+pub fn a_log_tells_of_its_changes()
+    ensures { (decls : List Decl) (db : Db) (l : Log) → is_db decls db ≡ true → is_committed db ≡ true → is_log decls l ≡ true → Replays decls db l →
+        lists_after decls db l ≡ lists_told decls db l }
 {}
 
 /// What a move comes to over plain lists stays the same wherever replies lead that these lists give: at every moment, also where nothing is concluded.
@@ -43,19 +57,29 @@ pub fn a_move_keeps_what_it_comes_to()
 {}
 
 /// Each operation that is asked may be asked after the log, over any replies of their kinds, if its term, where it has one, is a term of the language.
+/// `replies`, `grows`: a log has replies of their kinds, and stays one with such an operation and a reply of its kind.
 pub fn what_is_asked_may_be_asked()
-    ensures { (program : Program) (goal : Tree) (terms : List Tree) (number left : ℕ) (l k : Log) (o : Operation) (f : Reply → Move) →
+    ensures asked { (program : Program) (goal : Tree) (terms : List Tree) (number left : ℕ) (l k : Log) (o : Operation) (f : Reply → Move) →
         IsLed program goal terms number left l (asks o f) k → has_replies program.decls k ≡ true → has_valid_term o ≡ true → is_valid_after program.decls k o ≡ true }
+    ensures replies { (decls : List Decl) (l : Log) → is_log decls l ≡ true → has_replies decls l ≡ true }
+    ensures grows { (decls : List Decl) (l : Log) (o : Operation) (p : Reply) → is_log decls l ≡ true →
+        is_valid_after decls l o ≡ true → is_reply_after decls l o p ≡ true → is_log decls (l ++ (o, p) ∷ []) ≡ true }
 {}
 
-/// A search that asks ends over any desk, whatever it replies.
-/// `falls`: a turn, with whatever its reply leads to, lowers the number of inferences left, or keeps it and lowers the weight, as long as items are asked
-/// for by numbers below a bound. An item that doesn't unify uses no inference, and so the bound is what ends it.
-/// `stops`: from every state a desk's replies lead to a conclusion, or to an item asked for by a number that isn't below the bound.
+/// A search that asks ends over any desk, whatever it replies, if its cursors give fewer items than some number.
+/// `falls`: a turn, with whatever its reply leads to, lowers the number of inferences left, or keeps it and lowers the weight, as long as no item is given
+/// by a number that isn't below the bound. An item that doesn't unify uses no inference, and so the bound is what ends it.
+/// `ends`: from every state and log the replies of such a desk lead to a conclusion.
 pub fn a_search_that_asks_ends()
     ensures falls { (program : Program) (most : ℕ) (m : Asking) → FallsBelow most m.left (weight most m) (turn program m) }
-    ensures stops { (program : Program) (desk : Log → Operation → Reply) (most : ℕ) (m : Asking) (l : Log) →
-        (w : Move) × (k : Log) × LeadsOver program desk (goes m) l w k × HasStopped most w }
+    ensures ends { (program : Program) (desk : Log → Operation → Reply) (most : ℕ) → ((l : Log) (o : Operation) → IsBelow most o (desk l o)) →
+        (m : Asking) (l : Log) → (o : Conclusion) × (k : Log) × LeadsOver program desk (goes m) l (concluded o) k }
+{}
+
+/// Over all plain lists, whatever was asked of them before, a search that asks comes to its conclusion, with a longer log whose replies these lists give.
+pub fn plain_lists_lead_to_a_conclusion()
+    ensures { (program : Program) (goal : Tree) (terms : List Tree) (number left : ℕ) (l : Log) (db : Db) → Replays program.decls db l →
+        (o : Conclusion) × (k : Log) × IsLed program goal terms number left l (concluded o) k × Replays program.decls db k }
 {}
 
 /// How a machine goes on from where it stands: by a turn, or by a reply to what is asked, which the log has then.

@@ -1,5 +1,12 @@
 use Rattle.ml_machine.proofs.Validity.{asked_is_valid}
+use Rattle.ml_machine.proofs.Logs.{log_grows, log_has_replies}
 use Rattle.ml_machine.proofs.laws.what_is_asked_may_be_asked.Goals as goal
 
-pub returns : goal.returns
-returns c = asked_is_valid
+pub returns-clause-asked : goal.returns-clause-asked
+returns-clause-asked c = asked_is_valid
+
+pub returns-clause-replies : goal.returns-clause-replies
+returns-clause-replies c = log_has_replies
+
+pub returns-clause-grows : goal.returns-clause-grows
+returns-clause-grows c = log_grows

@@ -1,0 +1,4 @@
+pub mod Extension
+pub mod ItemKeys
+pub mod PatternCodes
+pub mod Turns

@@ -73,7 +73,7 @@ length-bytes_high_first : (k n : ℕ) → length (bytes_high_first k n) ≡ k
 length-bytes_high_first zero n = refl
 length-bytes_high_first (suc k) n = omega (arith, length-bytes_high_first k n)
 
-settled_names : (f g : List ℕ) → settled (name_bytes f) (name_bytes g) ≡ true
+pub settled_names : (f g : List ℕ) → settled (name_bytes f) (name_bytes g) ≡ true
 settled_names f g = by (cases_eq (length f) (length g))
   where
     by : (length f ≡ length g) ⊎ (length f ≡ length g → ⊥) → settled (name_bytes f) (name_bytes g) ≡ true

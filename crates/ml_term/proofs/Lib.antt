@@ -25,6 +25,8 @@ pub mod KeyHeads
 pub mod ValidBytes
 pub mod KeyOrder
 pub mod Arguments
+pub mod KeysTellTuples
+pub mod Decimals
 pub mod DefaultKeys
 pub mod Numbering
 pub mod KeysApart

@@ -7,15 +7,22 @@
 mod args;
 mod canonical;
 mod code;
+pub mod decimal_laws;
 mod declaration;
 mod key;
+pub mod key_laws;
 mod limits;
 mod name;
+pub mod name_laws;
 mod nodes;
 mod order;
 pub mod pattern_laws;
 mod term;
+#[cfg(test)]
+mod tests;
 pub mod unification_laws;
+mod valid;
+pub mod worked_rows;
 
 pub use args::ArgsOf;
 pub use canonical::canonical_cmp;
@@ -23,7 +30,8 @@ pub use code::code_word;
 pub use declaration::{Decl, Keys, Kind, Pred};
 pub use key::key_cmp;
 pub use limits::{INTEGER_OFFSET, MOST_ARGUMENTS, MOST_CODED_LENGTH, MOST_KEYS, MOST_NAME_BYTES};
-pub use name::Name;
+pub use name::{Name, is_name};
 pub use nodes::{is_ground, nodes_up_to};
 pub use order::compare;
 pub use term::{Args, Term, copy_terms};
+pub use valid::{is_in_range, is_valid};

@@ -4,10 +4,12 @@ ghost use Rattle.std.specs.Cmp.{partial_equiv_from_equiv};
 ghost use Rattle.std.specs.Cmp.Lexicographic.{nat_list_eq_equiv, pointwise, slice_cmp};
 ghost use Rattle.std.specs.Cmp.Rules.{hashing};
 ghost use Rattle.std.specs.Hash as fed;
+ghost use Rattle.std.specs.List.{list_all};
 ghost use Rattle.std.specs.Ordering.{nat_cmp};
 ghost use Rattle.std.proofs.Common.{rules};
-ghost use Rattle.ml_term.specs.Names.{is_name};
+ghost use Rattle.ml_term.specs.Names.{is_name, is_name_byte};
 
+use crate::limits::MOST_NAME_BYTES;
 use std::alloc::{AllocError, Global};
 use std::cmp::Ordering;
 use std::hash::{Hash, Hasher};
@@ -28,6 +30,27 @@ impl Model for Name {
     ghost view = { λ n. n.bytes.items };
 
     ghost invariant = { λ n. IsTrue (is_name n.bytes.items) };
+}
+
+/// Whether these are at most 255 bytes, each from 7 to 13 or from 32 to 126.
+pub fn is_name(bytes: &[u8]) -> bool
+    ensures { result ≡ is_name bytes.now }
+{
+    bytes.len() <= MOST_NAME_BYTES && are_name_bytes(bytes)
+}
+
+/// Whether a name may have each of these bytes.
+fn are_name_bytes(bytes: &[u8]) -> bool
+    ensures { result ≡ list_all is_name_byte bytes.now }
+{
+    bytes.iter().all(|b| is_name_byte(*b))
+}
+
+/// Whether a name may have this byte.
+fn is_name_byte(byte: u8) -> bool
+    ensures { result ≡ is_name_byte byte }
+{
+    (7 <= byte && byte <= 13) || (32 <= byte && byte <= 126)
 }
 
 impl Name {

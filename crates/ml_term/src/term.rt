@@ -1,5 +1,8 @@
 //! Terms: variables, integers, atoms and compounds.
 ghost use Rattle.std.specs.Prelude.{◌≡◌, IfOk};
+ghost use Rattle.ml_term.specs.Keys.{arguments};
+ghost use Rattle.ml_term.specs.Seen.{seen};
+ghost use Rattle.ml_term.specs.Tree.{arity};
 
 use crate::args::ArgsOf;
 use crate::name::Name;
@@ -22,6 +25,16 @@ pub enum Term {
 }
 
 impl Term {
+    /// The number of arguments, which only a compound has.
+    pub fn arity(&self) -> usize
+        ensures { result ≡ arity (arguments (seen self.now)) }
+    {
+        match self {
+            Term::Cmp(_, ts) => ts.as_slice().len(),
+            _ => 0,
+        }
+    }
+
     /// An equal term.
     #[cycle(copy)]
     pub fn copy_of(&self, alloc: Global) -> Result<Term, AllocError>

@@ -17,3 +17,4 @@ pub mod Rows
 pub mod Unifiers
 pub mod Falling
 pub mod Instances
+pub mod UnifierRows

@@ -3,3 +3,4 @@ pub mod BitRows
 pub mod Filled
 pub mod Asked
 pub mod KeyParts
+pub mod Beginnings

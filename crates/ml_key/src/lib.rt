@@ -8,10 +8,13 @@ mod arguments;
 mod canonical;
 mod extend;
 mod key;
+pub mod key_laws;
 mod limits;
 mod pattern;
 mod rows;
 mod term_code;
+#[cfg(test)]
+mod tests;
 
 pub use key::key_of;
 pub use limits::{CODE_BITS, MOST_NODE_BYTES, MOST_NODES, MOST_PLACES, VARIABLE_CODE};

@@ -1,0 +1,5 @@
+use Rattle.ml_search.proofs.Computed.{ending_rows}
+use Rattle.ml_search.proofs.rows.ending_rows.Goals as goal
+
+pub returns : goal.returns
+returns c = ending_rows

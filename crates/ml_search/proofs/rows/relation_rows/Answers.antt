@@ -1,0 +1,5 @@
+use Rattle.ml_search.proofs.Computed.{relation_rows}
+use Rattle.ml_search.proofs.rows.relation_rows.Goals as goal
+
+pub returns : goal.returns
+returns c = relation_rows

@@ -1,0 +1,5 @@
+use Rattle.ml_search.proofs.Computed.{stored_rows}
+use Rattle.ml_search.proofs.rows.stored_rows.Goals as goal
+
+pub returns : goal.returns
+returns c = stored_rows

@@ -1,0 +1,135 @@
+-- A session: the goals of a script one after another, with one budget, over the lists as they stood before it. The code may hold a session's changes
+-- and take them back; here a session that doesn't commit gives the lists that it began with.
+use Rattle.std.specs.Prelude.{ℕ, ◌+◌, nat_lt, Bool, true, ◌==◌, not, List, [], ◌∷◌, ◌++◌, map, length, Option, Some, None, cond, codes}
+use Rattle.std.specs.List.{filter, list_any}
+use Rattle.ml_term.specs.Tree.{Tree, variable, variables, width}
+use Rattle.ml_term.specs.Decimal.{decimal_text}
+use Rattle.ml_term.specs.Text.{text_of}
+use Rattle.ml_search.specs.declared.ending.Ending.{Ending}
+use Rattle.ml_search.specs.declared.ending.Ending.TheVariants.{Committed, Aborted, Refused, Failed}
+use Rattle.ml_search.specs.Limits.{most_answer_bytes}
+use Rattle.ml_search.specs.Program.{Program, Goal, Last, commit, abort, unless, Script}
+use Rattle.ml_search.specs.Errors.{resource_error, is_too_large, formal}
+use Rattle.ml_search.specs.Db.{Db}
+use Rattle.ml_search.specs.Changes.{Change, Lists}
+use Rattle.ml_search.specs.Table.{End, finished, ball, exhausted}
+use Rattle.ml_search.specs.Search.{Outcome, search_of}
+
+-- a line with its line feed
+abbrev pub line : List ℕ → List ℕ
+line text = text ++ 10 ∷ []
+
+-- a variable of a goal is shown unless its name begins with `_`
+abbrev pub is_shown : List ℕ × ℕ → Bool
+is_shown e = is_shown_name e.0
+  where
+    is_shown_name : List ℕ → Bool
+    is_shown_name [] = true
+    is_shown_name (b ∷ bs) = not (b == 95)
+
+-- the shown variables of a goal, by first place
+abbrev pub shown : Goal → List (List ℕ × ℕ)
+shown g = filter is_shown g.names
+
+-- the search of a goal for the terms of its shown variables
+abbrev pub asked : Program → Goal → Lists → ℕ → Outcome
+asked program g lists left = search_of program g.term (map (λ e. variable e.1) (shown g)) (width g.term) lists left
+
+-- `NAME = TERM` for each shown variable, with `, ` between; `met` are the variables that the line met before
+abbrev pub bindings_text : List (List ℕ × ℕ) → List Tree → List ℕ → List ℕ
+bindings_text (e ∷ []) (t ∷ ts) met = e.0 ++ codes " = " ++ text_of t met
+bindings_text (e ∷ es) (t ∷ ts) met = e.0 ++ codes " = " ++ text_of t met ++ codes ", " ++ bindings_text es ts (met ++ variables t)
+bindings_text es ts met = codes "true"
+
+-- an answer's line: two spaces, and its terms, or `true` where no variable is shown
+abbrev pub answer_line : Goal → List Tree → List ℕ
+answer_line g ts = line (codes "  " ++ bindings_text (shown g) ts [])
+
+-- answer lines, with the number of answer bytes so far, and the term that was raised instead of the next line, if any
+pub record Written : Type 0 where
+  pub lines : List (List ℕ)
+  pub bytes : ℕ
+  pub fault : Option Tree
+
+abbrev pub with_line : List ℕ → Written → Written
+with_line l w = record { lines = l ∷ w.lines; bytes = w.bytes; fault = w.fault }
+
+-- The lines of answers. One with a term that is too large, or whose line would pass the limit, ends its goal there.
+abbrev pub written : Goal → List (List Tree) → ℕ → Written
+written g [] bytes = record { lines = []; bytes = bytes; fault = None }
+written g (ts ∷ found) bytes =
+    cond (list_any is_too_large ts) (record { lines = []; bytes = bytes; fault = Some (resource_error (codes "term")) })
+    (cond (nat_lt most_answer_bytes (bytes + length (answer_line g ts))) (record { lines = []; bytes = bytes; fault = Some (resource_error (codes "output")) })
+    (with_line (answer_line g ts) (written g found (bytes + length (answer_line g ts)))))
+
+-- the term that the end of a search raises
+abbrev pub raised_by : End → Option Tree
+raised_by finished = None
+raised_by (ball t) = Some (formal t)
+raised_by exhausted = Some (resource_error (codes "inferences"))
+
+-- what a goal raises: at an answer, or else at the end of its search
+abbrev pub raised_in : Written → Outcome → Option Tree
+raised_in w o = first w.fault
+  where
+    first : Option Tree → Option Tree
+    first (Some t) = Some t
+    first None = raised_by o.end
+
+abbrev pub goal_line : ℕ → List ℕ
+goal_line j = line (codes "goal " ++ decimal_text j)
+
+abbrev pub count_line : ℕ → List ℕ
+count_line n = line (codes "  " ++ decimal_text n ++ codes " answers")
+
+abbrev pub error_line : Tree → List ℕ
+error_line t = line (codes "  error " ++ text_of t [])
+
+-- the lines, the ending, the lists after it, and the changes that it made
+pub record Session : Type 0 where
+  pub lines : List (List ℕ)
+  pub ending : Ending
+  pub db : Db
+  pub changes : List Change
+
+abbrev pub with_lines : List (List ℕ) → Session → Session
+with_lines ls s = record s { lines = ls ++ s.lines }
+
+-- a session that leaves the lists as they were
+abbrev pub uncommitted : List (List ℕ) → Ending → Db → Session
+uncommitted ls ending db = record { lines = ls; ending = ending; db = db; changes = [] }
+
+abbrev pub committed : Lists → Session
+committed lists = record { lines = []; ending = Committed; db = lists.db; changes = lists.made }
+
+-- the end of a session whose last goal, which has number j, refuses the commit if it has an answer
+abbrev pub decided : Outcome → ℕ → Db → Session
+decided o j before = by o.found (raised_by o.end)
+  where
+    by : List (List Tree) → Option Tree → Session
+    by (ts ∷ found) raised = uncommitted [] Refused before
+    by [] (Some t) = uncommitted (goal_line j ∷ error_line t ∷ []) (Failed j) before
+    by [] None = committed o.lists
+
+module _ (program : Program) where
+  -- the end of a session whose goals raised nothing; j is the number behind the last goal's
+  abbrev pub concluded : Last → ℕ → Db → Lists → ℕ → Session
+  concluded commit j before lists left = committed lists
+  concluded abort j before lists left = uncommitted [] Aborted before
+  concluded (unless g) j before lists left = decided (asked program g lists left) j before
+
+  -- The goals from number j on, and then the end: `before` are the lists before the session, and so many answer bytes stand before. The first raised
+  -- term ends the session.
+  abbrev pub played : List Goal → Last → ℕ → Db → Lists → ℕ → ℕ → Session
+  played [] last j before lists left bytes = concluded last j before lists left
+  played (g ∷ gs) last j before lists left bytes =
+      let o : Outcome = asked program g lists left in
+      let w : Written = written g o.found bytes in
+      with_lines (goal_line j ∷ w.lines)
+      (elim (raised_in w o) [
+        | Some t ↦ uncommitted (error_line t ∷ []) (Failed j) before
+        | None ↦ with_lines (count_line (length o.found) ∷ []) (played gs last (1 + j) before o.lists o.left w.bytes)
+      ])
+
+  abbrev pub session : Script → Db → Session
+  session script db = played script.goals script.last 1 db (record { db = db; made = [] }) script.budget 0

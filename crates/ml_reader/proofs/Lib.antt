@@ -1,0 +1,6 @@
+pub mod OperatorLaws
+pub mod Sound
+pub mod Open
+pub mod Complete
+pub mod Blind
+pub mod ExactLaws

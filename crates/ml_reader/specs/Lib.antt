@@ -1,0 +1,5 @@
+pub mod Lexemes
+pub mod Operators
+pub mod Grammar
+pub mod Parser
+pub mod Exact

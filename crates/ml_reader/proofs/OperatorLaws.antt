@@ -4,7 +4,7 @@ use Rattle.std.proofs.Common.{refl, sym, ap, ◌∙◌, subst, arith, true≢fal
 use Rattle.std.proofs.lemmas.Bool.{leb-true, ltb-true}
 use Rattle.std.specs.Str.{bytes_eq}
 use Rattle.ml_reader.specs.Lexemes.{Lexeme, name, comma}
-use Rattle.ml_reader.specs.Operators.{Operator, operator, infixes, prefixes, named, infix_of, prefix_of, infix_at}
+use Rattle.ml_reader.specs.Operators.{Row, Operator, operator, infixes, prefixes, is_among, named, comma_operator, infix_of, prefix_of, infix_at}
 
 -- the operators of a priority take terms of it on the right, if any
 abbrev pub right_first : ℕ → Bool
@@ -13,23 +13,23 @@ right_first p = p == 1100 || (p == 1050 || (p == 1000 || (p == 900 || p == 200))
 abbrev pub lawful : Operator → Bool
 lawful o = nat_le o.left o.priority && (nat_le o.right o.priority && (if right_first o.priority then nat_lt o.left o.priority else nat_lt o.right o.priority))
 
-abbrev all_lawful : List Operator → Bool
+abbrev all_lawful : List Row → Bool
 all_lawful [] = true
-all_lawful (o ∷ os) = lawful o && all_lawful os
+all_lawful (r ∷ rs) = lawful (operator [] r.priority r.left r.right) && all_lawful rs
 
 both : (a b : Bool) → IsTrue (a && b) → IsTrue a × IsTrue b
 both true true e = (refl, refl)
 both true false e = absurd (grind (arith, e))
 both false b e = absurd (grind (arith, e))
 
-named_lawful : (os : List Operator) (f : List ℕ) (o : Operator) → IsTrue (all_lawful os) → named os f ≡ Some o → IsTrue (lawful o)
+named_lawful : (rs : List Row) (f : List ℕ) (o : Operator) → IsTrue (all_lawful rs) → named rs f ≡ Some o → IsTrue (lawful o)
 named_lawful [] f o h e = absurd (grind (arith, e))
-named_lawful (o' ∷ os) f o h e = go (bytes_eq o'.name f) (both (lawful o') (all_lawful os) h) (λ h. named_lawful os f o h) e
+named_lawful (r ∷ rs) f o h e = go (is_among r.names f) (both (lawful (operator [] r.priority r.left r.right)) (all_lawful rs) h) (λ h. named_lawful rs f o h) e
   where
     some_inj : {a b : Operator} → Some a ≡ Some b → a ≡ b
     some_inj e = cc
 
-    go : (k : Bool) → IsTrue (lawful o') × IsTrue (all_lawful os) → (IsTrue (all_lawful os) → named os f ≡ Some o → IsTrue (lawful o)) → (if k then Some (operator f o'.priority o'.left o'.right) else named os f) ≡ Some o → IsTrue (lawful o)
+    go : (k : Bool) → IsTrue (lawful (operator [] r.priority r.left r.right)) × IsTrue (all_lawful rs) → (IsTrue (all_lawful rs) → named rs f ≡ Some o → IsTrue (lawful o)) → (if k then Some (operator f r.priority r.left r.right) else named rs f) ≡ Some o → IsTrue (lawful o)
     go true h r e = subst (λ o. IsTrue (lawful o)) (some_inj e) h.0
     go false h r e = r h.1 e
 

@@ -1,6 +1,7 @@
 -- The table of operators.
 use Rattle.std.specs.Prelude.{ℕ, Bool, true, false, ◌||◌, nat_le, if◌then◌else◌, List, [], ◌∷◌, Option, Some, None, codes, is_some}
 use Rattle.std.specs.Str.{bytes_eq}
+use Rattle.std.specs.List.{list_any}
 use Rattle.ml_reader.specs.Lexemes.{Lexeme, name, close, unbracket, unbrace, bar, comma, end}
 
 -- an operator: its name, its priority, the greatest priority on its left (infix operators) and on its right
@@ -14,50 +15,55 @@ pub record Operator : Type 0 where
 abbrev pub operator : List ℕ → ℕ → ℕ → ℕ → Operator
 operator f p l r = record { name = f; priority = p; left = l; right = r }
 
+-- a row of the table: the names of operators, their priority, and the greatest priorities on their left and right
+pub record Row : Type 0 where
+  pub names : List (List ℕ)
+  pub priority : ℕ
+  pub left : ℕ
+  pub right : ℕ
+
+-- a row of these
+abbrev pub row : List (List ℕ) → ℕ → ℕ → ℕ → Row
+row names p l r = record { names = names; priority = p; left = l; right = r }
+
+-- the operators that compare
+abbrev pub comparisons : List (List ℕ)
+comparisons =
+    codes "=" ∷ codes "\\=" ∷ codes "==" ∷ codes "\\==" ∷ codes "@<" ∷ codes "@=<" ∷ codes "@>" ∷ codes "@>=" ∷ codes "=.." ∷ codes "is" ∷ codes "=:="
+    ∷ codes "=\\=" ∷ codes "<" ∷ codes "=<" ∷ codes ">" ∷ codes ">=" ∷ []
+
 -- the infix operators
-abbrev pub infixes : List Operator
+abbrev pub infixes : List Row
 infixes =
-    operator (codes ":-") 1200 1199 1199
-    ∷ operator (codes ";") 1100 1099 1100
-    ∷ operator (codes "->") 1050 1049 1050
-    ∷ operator (codes ",") 1000 999 1000
-    ∷ operator (codes "=") 700 699 699
-    ∷ operator (codes "\\=") 700 699 699
-    ∷ operator (codes "==") 700 699 699
-    ∷ operator (codes "\\==") 700 699 699
-    ∷ operator (codes "@<") 700 699 699
-    ∷ operator (codes "@=<") 700 699 699
-    ∷ operator (codes "@>") 700 699 699
-    ∷ operator (codes "@>=") 700 699 699
-    ∷ operator (codes "=..") 700 699 699
-    ∷ operator (codes "is") 700 699 699
-    ∷ operator (codes "=:=") 700 699 699
-    ∷ operator (codes "=\\=") 700 699 699
-    ∷ operator (codes "<") 700 699 699
-    ∷ operator (codes "=<") 700 699 699
-    ∷ operator (codes ">") 700 699 699
-    ∷ operator (codes ">=") 700 699 699
-    ∷ operator (codes "+") 500 500 499
-    ∷ operator (codes "-") 500 500 499
-    ∷ operator (codes "*") 400 400 399
-    ∷ operator (codes "/") 400 400 399
-    ∷ operator (codes "//") 400 400 399
-    ∷ operator (codes "rem") 400 400 399
-    ∷ operator (codes "mod") 400 400 399
+    row (codes ":-" ∷ []) 1200 1199 1199
+    ∷ row (codes ";" ∷ []) 1100 1099 1100
+    ∷ row (codes "->" ∷ []) 1050 1049 1050
+    ∷ row (codes "," ∷ []) 1000 999 1000
+    ∷ row comparisons 700 699 699
+    ∷ row (codes "+" ∷ codes "-" ∷ []) 500 500 499
+    ∷ row (codes "*" ∷ codes "/" ∷ codes "//" ∷ codes "rem" ∷ codes "mod" ∷ []) 400 400 399
     ∷ []
 
 -- the prefix operators
-abbrev pub prefixes : List Operator
-prefixes = operator (codes ":-") 1200 0 1199 ∷ operator (codes "?-") 1200 0 1199 ∷ operator (codes "\\+") 900 0 900 ∷ operator (codes "-") 200 0 200 ∷ []
+abbrev pub prefixes : List Row
+prefixes =
+    row (codes ":-" ∷ codes "?-" ∷ []) 1200 0 1199
+    ∷ row (codes "\\+" ∷ []) 900 0 900
+    ∷ row (codes "-" ∷ []) 200 0 200
+    ∷ []
 
 -- the comma
 abbrev pub comma_operator : Operator
 comma_operator = operator (codes ",") 1000 999 1000
 
+-- whether a name stands among some
+abbrev pub is_among : List (List ℕ) → List ℕ → Bool
+is_among names f = list_any (λ n. bytes_eq n f) names
+
 -- the operator of a name in a table
-abbrev pub named : List Operator → List ℕ → Option Operator
+abbrev pub named : List Row → List ℕ → Option Operator
 named [] f = None
-named (o ∷ os) f = if bytes_eq o.name f then Some (operator f o.priority o.left o.right) else named os f
+named (r ∷ rs) f = if is_among r.names f then Some (operator f r.priority r.left r.right) else named rs f
 
 -- the infix operator of a name
 unfoldable pub infix_of : List ℕ → Option Operator

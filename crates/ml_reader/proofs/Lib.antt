@@ -4,3 +4,4 @@ pub mod Open
 pub mod Complete
 pub mod Blind
 pub mod ExactLaws
+pub mod Views

@@ -2,9 +2,8 @@
 use Rattle.std.specs.Prelude.{if◌then◌else◌, ◌≡◌, ◌≢◌, ℕ, ◌<◌, ◌≤◌, Bool, true, false, ◌&&◌, ◌||◌, ◌==◌, IsTrue, nat_le, nat_lt, List, [], ◌∷◌, Some}
 use Rattle.std.proofs.Common.{refl, sym, ap, ◌∙◌, subst, arith, true≢false}
 use Rattle.std.proofs.lemmas.Bool.{leb-true, ltb-true}
-use Rattle.std.specs.Str.{bytes_eq}
 use Rattle.ml_reader.specs.Lexemes.{Lexeme, name, comma}
-use Rattle.ml_reader.specs.Operators.{Row, Operator, operator, infixes, prefixes, is_among, named, comma_operator, infix_of, prefix_of, infix_at}
+use Rattle.ml_reader.specs.Operators.{Row, Operator, operator, infixes, prefixes, is_among, named, infix_of, prefix_of, infix_at}
 
 -- the operators of a priority take terms of it on the right, if any
 abbrev pub right_first : ℕ → Bool

@@ -60,7 +60,7 @@ braces_name = codes "{}"
 
 -- the bare name `-`
 abbrev pub is_minus : Bool → List ℕ → Bool
-is_minus quoted f = not quoted && bytes_eq f (codes "-")
+is_minus quoted f = not quoted && bytes_eq (codes "-") f
 
 -- a cell of a list
 abbrev pub cell : Tree → Tree → Tree

@@ -3,3 +3,6 @@ pub mod Operators
 pub mod Grammar
 pub mod Parser
 pub mod Exact
+pub mod Seen
+pub mod Frames
+pub mod Rows

@@ -6,4 +6,17 @@
 //! with which no text of the grammar goes on.
 #![tactic(auto)]
 
+mod building;
+mod frames;
 pub mod grammar_laws;
+mod innermost;
+mod lexeme;
+mod operators;
+mod parser;
+#[cfg(test)]
+mod tests;
+
+pub use frames::{Arguments, Bracket, Frame, Next, Refusal, State};
+pub use lexeme::{Lexeme, Magnitude, Mark, Names, Read};
+pub use operators::Sides;
+pub use parser::step;

@@ -1,8 +1,8 @@
 -- The parser's answer is exact.
-use Rattle.std.specs.Prelude.{◌≡◌, ℕ, suc, ◌+◌, true, false, List, [], ◌∷◌, ◌++◌, length, take, Some, Ok, Err}
+use Rattle.std.specs.Prelude.{◌≢◌, ◌≡◌, ℕ, suc, ◌+◌, true, false, List, [], ◌∷◌, ◌++◌, length, take, Some, Ok, Err}
 use Rattle.std.proofs.Common.{refl, sym, ap, ◌∙◌, subst, arith, append_assoc, append-nil, length-append, add-one}
 use Rattle.ml_reader.specs.Lexemes.{Written, Lexeme, turned_onto}
-use Rattle.ml_reader.specs.Grammar.{Viable}
+use Rattle.ml_reader.specs.Grammar.{IsText, Viable}
 use Rattle.ml_reader.specs.Parser.{root, ◌▹◌, State, want, fresh, word, have, Fault, clash, unexpected, Next, step, run, read}
 use Rattle.ml_reader.specs.Exact.{refused, unfinished, IsKind, Exact, ending, answer}
 use Rattle.ml_reader.proofs.Sound.{sound}
@@ -51,18 +51,18 @@ module _ (front : List Lexeme) (s : State) (e : read true front ≡ Ok s) where
       go (have p t fs) e = no_text (have p t fs) e (λ u i. grind (arith, i))
 
   module _ (x : Lexeme) where
-    one_more : read true (front ++ (x ∷ [])) ≡ step true s x
+    pub one_more : read true (front ++ (x ∷ [])) ≡ step true s x
     one_more = run_append true (Ok (want (root []))) front (x ∷ []) ∙ ap (λ n. run true n (x ∷ [])) e
 
     walk_more : walk (Some (wants [])) (front ++ (x ∷ [])) ≡ moved (place s) x
     walk_more = walk_append (Some (wants [])) front (x ∷ []) ∙ ap (λ m. walk m (x ∷ [])) (walks true (Ok (want (root []))) (Some (wants [])) front s refl e)
 
-    kind : (k : Fault) → Agrees (Err k) (moved (place s) x) → IsKind k (front ++ (x ∷ []))
+    pub kind : (k : Fault) → Agrees (Err k) (moved (place s) x) → IsKind k (front ++ (x ∷ []))
     kind clash a = walk_viable (front ++ (x ∷ [])) a.0 (walk_more ∙ a.1)
     kind unexpected a = walk_stops false (front ++ (x ∷ [])) (walk_more ∙ a)
 
     module _ (k : Fault) (f : step true s x ≡ Err k) where
-      stuck : Viable true (front ++ (x ∷ [])) → ⊥
+      pub stuck : Viable true (front ++ (x ∷ [])) → ⊥
       stuck v = not_both (sym (reads _ v.1 v.2) ∙ (run_append true (Ok (want (root []))) (front ++ (x ∷ [])) v.0 ∙ (ap (λ n. run true n v.0) (one_more ∙ f) ∙ fault_stays k v.0)))
 
       pub first_fault : (xs : List Lexeme) → Exact (front ++ (x ∷ xs)) (refused (length front) k)
@@ -75,6 +75,17 @@ module _ (front : List Lexeme) (s : State) (e : read true front ≡ Ok s) where
             subst (λ l. IsKind k l) (sym e2) (kind k (subst (λ n. Agrees n (moved (place s) x)) f (step_agrees true s x))),
           )
 
+-- where the parser doesn't stand between clauses the tokens are no text
+pub no_text_yet : (xs : List Lexeme) (s : State) → read true xs ≡ Ok s → ((cs : List Written) → s ≢ want (root cs)) → (cs : List Written) → IsText true xs cs → ⊥
+no_text_yet xs s e d cs c = d (back cs []) (same_state (sym e ∙ reads xs cs c))
+  where
+    same_state : {r s : State} → fine r ≡ fine s → r ≡ s
+    same_state e = cc
+
+-- at a token that the parser refuses, the kind of its refusal is right
+pub right_kind : (xs : List Lexeme) (s : State) (e : read true xs ≡ Ok s) (x : Lexeme) (k : Fault) → step true s x ≡ Err k → IsKind k (xs ++ (x ∷ []))
+right_kind xs s e x k f = kind xs s e x k (subst (λ n. Agrees n (moved (place s) x)) f (step_agrees true s x))
+
 exact_from : (xs front : List Lexeme) (s : State) (n : ℕ) → read true front ≡ Ok s → n ≡ length front → Exact (front ++ xs) (answer n s xs)
 exact_from [] front s n e l = subst (λ l. Exact l (ending s)) (sym (append-nil front)) (at_end front s e)
 exact_from (x ∷ xs) front s n e l = go (step true s x) refl (λ s' e'. exact_from xs (front ++ (x ∷ [])) s' (n + 1) e' (omega (arith, l, length-append front (x ∷ []))))
@@ -86,3 +97,10 @@ exact_from (x ∷ xs) front s n e l = go (step true s x) refl (λ s' e'. exact_f
 
 pub exact : (xs : List Lexeme) → Exact xs (answer 0 (want (root [])) xs)
 exact xs = exact_from xs [] (want (root [])) 0 refl refl
+
+-- the tokens of a text have one list of clauses
+pub only_clauses : (xs : List Lexeme) (cs ds : List Written) → IsText true xs cs → IsText true xs ds → cs ≡ ds
+only_clauses xs cs ds c d = sym (turned_whole cs) ∙ (ap (λ l. turned_onto l []) (same_root (sym (reads xs cs c) ∙ reads xs ds d)) ∙ turned_whole ds)
+  where
+    turned_whole : (ds : List Written) → turned_onto (back ds []) [] ≡ ds
+    turned_whole ds = turned_back ds [] [] ∙ append-nil ds

@@ -5,3 +5,6 @@ pub mod Complete
 pub mod Blind
 pub mod ExactLaws
 pub mod Views
+pub mod ReadingLaws
+pub mod ReadingSteps
+pub mod OneStop

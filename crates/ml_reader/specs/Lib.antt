@@ -6,3 +6,6 @@ pub mod Exact
 pub mod Seen
 pub mod Frames
 pub mod Rows
+pub mod Tokens
+pub mod Reading
+pub mod Standing

@@ -1,0 +1,10 @@
+pub mod OperatorLaws
+pub mod Sound
+pub mod Open
+pub mod Complete
+pub mod Blind
+pub mod ExactLaws
+pub mod Views
+pub mod ReadingLaws
+pub mod ReadingSteps
+pub mod OneStop

@@ -1,0 +1,5 @@
+use Rattle.ml_reader.proofs.grammar_laws.a_text_has_one_reading.Goals as goal
+use Rattle.ml_reader.proofs.ReadingLaws.{only_reading}
+
+pub returns : goal.returns
+returns c = only_reading

@@ -1,0 +1,5 @@
+use Rattle.ml_reader.proofs.grammar_laws.the_parser_is_exact.Goals as goal
+use Rattle.ml_reader.proofs.ExactLaws.{exact}
+
+pub returns : goal.returns
+returns c = exact

@@ -1,0 +1,22 @@
+//! Reads texts of clauses: which terms the tokens of a text spell, and where a text goes wrong first.
+//!
+//! It stands on ml_token, which cuts a text into its tokens, and on ml_term, whose trees the grammar derives. The layers
+//! above read rules and scripts with it. `specs/Grammar.antt` is the language as derivations by priority, `specs/Parser.antt`
+//! an automaton that takes one token at a time. The law that carries it: the automaton stops exactly at the first token
+//! with which no text of the grammar goes on.
+#![tactic(auto)]
+
+mod building;
+mod frames;
+pub mod grammar_laws;
+mod innermost;
+mod lexeme;
+mod operators;
+mod parser;
+#[cfg(test)]
+mod tests;
+
+pub use frames::{Arguments, Bracket, Frame, Next, Refusal, State};
+pub use lexeme::{Lexeme, Magnitude, Mark, Names, Read};
+pub use operators::Sides;
+pub use parser::step;

@@ -1,0 +1,22 @@
+//! The limits of codes, keys and patterns.
+
+/// How many bits a code has.
+pub const CODE_BITS: usize = 64;
+
+/// The code that every variable has.
+pub const VARIABLE_CODE: u64 = 0;
+
+/// How many keyed places a declaration has at most.
+pub const MOST_PLACES: usize = 8;
+
+/// How many nodes a term has at most whose key is wanted.
+pub const MOST_NODES: usize = 4096;
+
+/// How many canonical bytes one node has at most: the tag, the arity, and a name of 255 bytes behind its length.
+pub const MOST_NODE_BYTES: usize = 258;
+
+/// How many bits a byte has.
+pub(crate) const BYTE_BITS: usize = 8;
+
+/// How many bits of a clause's storage number stand in its key: all.
+pub(crate) const NUMBER_BITS: usize = 64;

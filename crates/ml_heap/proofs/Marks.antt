@@ -1,0 +1,30 @@
+-- Marks go on to stand for the same heaps, however many changes come after them.
+use Rattle.std.specs.Prelude.{◌≡◌, ℕ, suc, ◌-◌, ◌<◌, ◌≤◌, List, [], ◌∷◌, length, drop}
+use Rattle.std.proofs.Common.{refl, sym, ap, ◌∙◌, arith}
+use Rattle.ml_heap.specs.Changes.{Change, Changes, heap_of_mark, KeepsMarks}
+
+pub marks_stay : (h : Changes) → KeepsMarks h h
+marks_stay h m l = (l, refl)
+
+pub marks_go_on : (h h' h'' : Changes) → KeepsMarks h h' → KeepsMarks h' h'' → KeepsMarks h h''
+marks_go_on h h' h'' a b m l =
+    let p = a m l in
+    let q = b m p.0 in
+    (q.0, q.1 ∙ p.1)
+
+pub marks_kept : (c : Change) (h : Changes) → KeepsMarks h (c ∷ h)
+marks_kept c h m l = (omega arith, at_last m l)
+  where
+    at_last : (m : ℕ) → m ≤ length h → heap_of_mark (c ∷ h) m ≡ heap_of_mark h m
+    at_last m l =
+        let e : length (c ∷ h) - m ≡ suc (length h - m) = omega arith in
+        ap (λ n. drop n (c ∷ h)) e
+
+-- undone one change, there is no less to undo
+pub undone_one : (c : Change) (h : Changes) (m : ℕ) → m ≤ length h → heap_of_mark h m ≡ heap_of_mark (c ∷ h) m
+undone_one c h m l = sym (marks_kept c h m l).1
+
+pub all_undone : (h : Changes) (m : ℕ) → length h ≤ m → heap_of_mark h m ≡ h
+all_undone h m l =
+    let e : length h - m ≡ 0 = omega arith in
+    ap (λ n. drop n h) e

@@ -1,5 +1,4 @@
 //! Cells, and the steps that are kept so as to undo them.
-use crate::place::Ref;
 use ml_term::{ArgsOf, Name};
 
 /// What one cell holds.
@@ -7,19 +6,19 @@ use ml_term::{ArgsOf, Name};
 pub enum Cell {
     /// An unbound variable by its number.
     Unbound(u32),
-    /// A variable by its number, and the cell that it is bound to.
-    Bound(u32, Ref),
+    /// A variable by its number, and the place of the cell that it is bound to.
+    Bound(u32, usize),
     /// An integer.
     Int(i64),
     /// An atom.
     Atom(Name),
-    /// A compound of a name and its arguments' cells, and whether it was ground when it was made.
-    Cmp(Name, ArgsOf<Ref>, bool),
+    /// A compound of a name and the places of its arguments' cells, and whether it was known to be ground when it was made.
+    Cmp(Name, ArgsOf<usize>, bool),
 }
 
-/// What was done last: a cell was made, or the variable of the first cell was bound to the second.
+/// One step: a cell was made, or the variable at the first place was bound to the cell at the second.
 #[derive(Clone, Copy)]
 pub enum Step {
     Made,
-    Binding(Ref, Ref),
+    Binding(usize, usize),
 }

@@ -3,6 +3,7 @@
 
 mod cell;
 mod heap;
+mod links;
 mod look;
 mod place;
 

@@ -1,0 +1,17 @@
+-- The argument's cell is one of the compound's.
+use Rattle.std.proofs.Common.{◌≡◌, ap, sym, ◌∙◌, subst, arith, length}
+use Rattle.ml_heap.specs.declared.cell.Cell.{Cell}
+use Rattle.ml_heap.specs.declared.cell.Cell.TheVariants.{Unbound, Bound, Int, Atom, Cmp}
+use Rattle.ml_heap.specs.Changes.{state, stands_for, IsVariable, number, tree_in, arguments_of}
+use Rattle.ml_heap.specs.Layout.{Fits}
+use Rattle.ml_heap.proofs.Inside.{stands, are_linked, is_inside, end_inside, same_tree, found, is_end, shows_compound, has_argument, variable_is_unbound, compound_is_one}
+use Rattle.ml_heap.proofs.heap.Heap.arg.Goals as goal
+
+pub end_of-end-requires-clause-inside : goal.end_of-end-requires-clause-inside
+end_of-end-requires-clause-inside c = omega (arith, is_inside _ _ _ c.self.invariant _ c.self.view_is _ c.args.at c.deref.ensures.value c.requires.inside, c.place.ensures)
+
+pub end_of-end-requires-clause-linked : goal.end_of-end-requires-clause-linked
+end_of-end-requires-clause-linked c = are_linked _ _ _ c.self.invariant _ c.self.view_is _ c.deref.ensures.value
+
+pub unreachable-requires : goal.unreachable-requires
+unreachable-requires c = compound_is_one _ _ _ c.index.result.now c.args.i (found _ _ _ c.self.invariant _ c.self.view_is _ c.deref.ensures.value _ _ _ c.end_of-end.ensures.inside c.end_of-end.ensures.same c.place.ensures c.index.result.now c.index.ensures) (is_end _ _ _ c.self.invariant _ c.self.view_is _ c.deref.ensures.value _ _ _ c.end_of-end.ensures.inside c.end_of-end.ensures.same c.place.ensures c.index.result.now c.index.ensures c.end_of-end.ensures.end) c.requires.compound c.in_default.not-Cmp

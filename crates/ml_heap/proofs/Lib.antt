@@ -2,6 +2,8 @@ pub mod Lists
 pub mod Marks
 pub mod Keeping
 pub mod Making
-pub mod Binding
+pub mod Replacing
 pub mod CellsSay
 pub mod Inside
+pub mod Undoing
+pub mod Bindings

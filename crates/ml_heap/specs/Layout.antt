@@ -115,3 +115,12 @@ abbrev pub of_variable : Cell → Bool
 of_variable (Unbound n) = true
 of_variable (Bound n q) = true
 of_variable _ = false
+
+-- the latest step, where the latest is last
+abbrev pub last_step : List Step → Step
+last_step steps = slice_index_or steps (length steps - 1) Made
+
+-- whether there is a variable less before a step
+abbrev pub unmakes : Step → List Cell → Bool
+unmakes Made cells = of_variable (cell_in cells (length cells - 1))
+unmakes (Binding v q) cells = false

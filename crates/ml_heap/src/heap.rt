@@ -6,7 +6,7 @@ ghost use Rattle.ml_heap.specs.Changes.{Changes, trees, cell_count, variable_cou
 ghost use Rattle.ml_heap.specs.Looks.{Shows};
 
 use crate::cell::{Cell, Step};
-use crate::links::{are_ground, end_of, free, is_of_variable, places_of};
+use crate::links::{are_ground, end_of, places_of, undo_step};
 use crate::look::Look;
 use crate::place::{Mark, Ref};
 use ml_term::{ArgsOf, Name};
@@ -105,8 +105,9 @@ impl Heap {
         let at = Ref::at(self.cells.len());
         let ground = are_ground(&self.cells, args);
         let name = name.copy_of(self.alloc)?;
-        let args = ArgsOf::new(places_of(self.alloc, args)?);
-        push(&mut self.cells, &mut self.steps, Cell::Cmp(name, args, ground))?;
+        let places = places_of(self.alloc, args)?;
+        let cell = Cell::Cmp(name, ArgsOf::new(places), ground);
+        push(&mut self.cells, &mut self.steps, cell)?;
         Ok(at)
     }
 
@@ -199,16 +200,8 @@ impl Heap {
         requires { 0 < length self.old }
         ensures { self.new ≡ drop 1 self.old }
     {
-        match self.steps.pop() {
-            Some(Step::Made) => {
-                if let Some(cell) = self.cells.pop() {
-                    if is_of_variable(&cell) {
-                        self.created -= 1;
-                    }
-                }
-            }
-            Some(Step::Binding(var, _)) => free(&mut self.cells, var),
-            None => {}
+        if undo_step(&mut self.steps, &mut self.cells) {
+            self.created -= 1;
         }
     }
 }

@@ -1,10 +1,10 @@
 //! What is read of cells and done to one of them.
-ghost use Rattle.std.specs.Prelude.{◌≡◌, ◌<◌, ℕ, List, length, IsTrue, true, slice_index, slice_set, IfOk};
+ghost use Rattle.std.specs.Prelude.{◌≡◌, ◌<◌, ℕ, List, length, IsTrue, true, slice_index, slice_set, IfOk, take, ◌-◌};
 ghost use Rattle.ml_term.specs.Tree.{Tree, is_ground};
 ghost use Rattle.ml_heap.specs.Changes.{tree_in};
-ghost use Rattle.ml_heap.specs.Layout.{cell_in, IsEnd, AreLinked, FitAll, known_ground, of_variable, freed};
+ghost use Rattle.ml_heap.specs.Layout.{cell_in, IsEnd, AreLinked, FitAll, known_ground, of_variable, freed, before, last_step, unmakes, IsStepOf};
 
-use crate::cell::Cell;
+use crate::cell::{Cell, Step};
 use crate::place::Ref;
 use std::alloc::{AllocError, Global};
 
@@ -66,12 +66,44 @@ pub fn is_of_variable(cell: &Cell) -> bool
 }
 
 /// Makes a bound cell unbound.
-pub fn free(cells: &mut [Cell], at: usize)
-    requires { at < length cells.old }
-    ensures { cells.new ≡ slice_set cells.old at (freed (cell_in cells.old at)) }
+fn free(cells: &mut Vec<Cell>, at: usize)
+    requires { at < length cells.old.items }
+    ensures { cells.new.items ≡ slice_set cells.old.items at (freed (cell_in cells.old.items at)) }
 {
     if let Cell::Bound(n, _) = cells[at] {
         cells[at] = Cell::Unbound(n);
+    }
+}
+
+/// Takes the last cell out, and says whether it was one of a variable.
+fn unmake(cells: &mut Vec<Cell>) -> bool
+    requires { 0 < length cells.old.items }
+    ensures cells { cells.new.items ≡ take (length cells.old.items - 1) cells.old.items }
+    ensures variable { result ≡ of_variable (cell_in cells.old.items (length cells.old.items - 1)) }
+{
+    let last = cells.len() - 1;
+    let variable = is_of_variable(&cells[last]);
+    cells.truncate(last);
+    variable
+}
+
+/// Undoes the latest step, and says whether a variable was taken out.
+pub fn undo_step(steps: &mut Vec<Step>, cells: &mut Vec<Cell>) -> bool
+    requires some { 0 < length steps.old.items }
+    requires fits { IsStepOf (last_step steps.old.items) cells.old.items }
+    ensures steps { steps.new.items ≡ take (length steps.old.items - 1) steps.old.items }
+    ensures cells { cells.new.items ≡ before (last_step steps.old.items) cells.old.items }
+    ensures variable { result ≡ unmakes (last_step steps.old.items) cells.old.items }
+{
+    let last = steps.len() - 1;
+    let step = steps[last];
+    steps.truncate(last);
+    match step {
+        Step::Made => unmake(cells),
+        Step::Binding(var, _) => {
+            free(cells, var);
+            false
+        }
     }
 }
 

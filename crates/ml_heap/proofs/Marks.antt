@@ -28,3 +28,11 @@ pub all_undone : (h : Changes) (m : ℕ) → length h ≤ m → heap_of_mark h m
 all_undone h m l =
     let e : length h - m ≡ 0 = omega arith in
     ap (λ n. drop n h) e
+
+-- one change less, where the mark is still below
+pub undone_once : (h h' : Changes) (m : ℕ) → m < length h → h' ≡ drop 1 h → (m ≤ length h') × (heap_of_mark h' m ≡ heap_of_mark h m)
+undone_once [] h' m l e = absurd (omega arith)
+undone_once (c ∷ h) h' m l e =
+    let k : h' ≡ h = e in
+    let below : m ≤ length h = omega arith in
+    (omega (arith, ap length k, below), ap (λ z. heap_of_mark z m) k ∙ undone_one c h m below)

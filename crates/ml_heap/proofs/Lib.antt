@@ -1,5 +1,5 @@
 pub mod Lists
-pub mod Marks
+pub mod MarksStay
 pub mod Keeping
 pub mod Making
 pub mod Replacing
@@ -7,3 +7,5 @@ pub mod CellsSay
 pub mod Inside
 pub mod Undoing
 pub mod Bindings
+pub mod Solving
+pub mod Rounds

@@ -9,7 +9,7 @@ use Rattle.ml_heap.specs.declared.cell.Cell.TheVariants.{Unbound, Bound, Int, At
 use Rattle.ml_heap.specs.declared.cell.Step.{Step}
 use Rattle.ml_heap.specs.declared.cell.Step.TheVariants.{Made, Binding}
 use Rattle.ml_heap.specs.Layout.{made_by, changes_by, changes_of, number_of, Fits, StandFor, AreKept, IsKept}
-use Rattle.ml_heap.proofs.Marks.{marks_kept}
+use Rattle.ml_heap.proofs.MarksStay.{marks_kept}
 use Rattle.ml_heap.proofs.Keeping.{one_made, counted, stand_now, tree_stays, one_stands_more, kept_more}
 use Rattle.ml_heap.proofs.Lists.{map_alike}
 

@@ -17,7 +17,7 @@ use Rattle.ml_heap.specs.declared.cell.Step.{Step}
 use Rattle.ml_heap.specs.declared.cell.Step.TheVariants.{Made, Binding}
 use Rattle.ml_heap.specs.Layout.{made_by, changes_by, changes_of, cell_in, number_of, rank_of, Fits, StandFor, freed, AreKept, IsKept}
 use Rattle.ml_heap.proofs.Keeping.{one_replaced, stand_now}
-use Rattle.ml_heap.proofs.Marks.{marks_kept}
+use Rattle.ml_heap.proofs.MarksStay.{marks_kept}
 
 -- an element that is put back
 put_back : {A : Type 0} (xs : List A) (i : ℕ) (x y : A) → get_or xs i y ≡ y → set (set xs i x) i y ≡ xs

@@ -49,4 +49,4 @@ module _ (steps : List Step) (cells : List Cell) (m : ℕ) (k : IsKept steps cel
 
     pub marks_bound : KeepsMarks h (changes_of steps' (set cells v (Bound n q)))
     marks_bound = subst (λ h'. KeepsMarks h' (changes_of steps' (set cells v (Bound n q)))) e
-      (subst (λ ss. KeepsMarks (changes_of steps cells) (changes_of ss (set cells v (Bound n q)))) (sym p) (binding_marks steps cells m v n q k in_v in_q at_v lower absent))
+        (subst (λ ss. KeepsMarks (changes_of steps cells) (changes_of ss (set cells v (Bound n q)))) (sym p) (binding_marks steps cells m v n q k in_v in_q at_v lower absent))

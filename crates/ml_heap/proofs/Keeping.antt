@@ -70,10 +70,10 @@ module _ (cells : List Cell) (d : Cell) (ts : List Tree) (u : Tree) (size : leng
   fits_still t (Int z) h = h
   fits_still t (Atom f) h = h
   fits_still t (Cmp f qs g) h = (
-      h.0 ∙ ap (λ ts. compound f (trees_of ts)) (map_alike (tree_in ts) (tree_in (ts ++ u ∷ [])) qs (λ i l. sym (tree_stays (get_or qs i 0) (h.1 i l)))),
-      (λ i l. longer (get_or qs i 0) (h.1 i l)),
-      h.2,
-    )
+    h.0 ∙ ap (λ ts. compound f (trees_of ts)) (map_alike (tree_in ts) (tree_in (ts ++ u ∷ [])) qs (λ i l. sym (tree_stays (get_or qs i 0) (h.1 i l)))),
+    (λ i l. longer (get_or qs i 0) (h.1 i l)),
+    h.2,
+  )
 
 last_or_before : (r n : ℕ) → r < n + 1 → (r ≢ n → r < n)
 last_or_before r n l d = grind (arith, d)
@@ -104,14 +104,14 @@ module _ (cells : List Cell) (d : Cell) (s s' : State) (u : Tree)
 
   fit_each : (r : ℕ) → r < length all → Fits (s.trees ++ u ∷ []) all (tree_in (s.trees ++ u ∷ []) r) (cell_in all r)
   fit_each = each (λ r. Fits (s.trees ++ u ∷ []) all (tree_in (s.trees ++ u ∷ []) r) (cell_in all r))
-    (λ r l. rw (tree_stays cells d s.trees u k.size r l, cell_stays cells d s.trees u k.size r l) (fits_still cells d s.trees u k.size (tree_in s.trees r) (cell_in cells r) (k.fit r l)))
-    (rw (last_tree, last_cell) fits)
+      (λ r l. rw (tree_stays cells d s.trees u k.size r l, cell_stays cells d s.trees u k.size r l) (fits_still cells d s.trees u k.size (tree_in s.trees r) (cell_in cells r) (k.fit r l)))
+      (rw (last_tree, last_cell) fits)
 
   numbered : (r n : ℕ) → r < length all → number_of (cell_in all r) ≡ Some n
       → ((r < length cells) × (number_of (cell_in cells r) ≡ Some n)) ⊎ ((r ≡ length cells) × (number_of d ≡ Some n))
   numbered r n l h = each (λ r. number_of (cell_in all r) ≡ Some n → ((r < length cells) × (number_of (cell_in cells r) ≡ Some n)) ⊎ ((r ≡ length cells) × (number_of d ≡ Some n)))
-    (λ r l h. inl (l, sym (ap number_of (cell_stays cells d s.trees u k.size r l)) ∙ h))
-    (λ h. inr (refl, sym (ap number_of last_cell) ∙ h)) r l h
+      (λ r l h. inl (l, sym (ap number_of (cell_stays cells d s.trees u k.size r l)) ∙ h))
+      (λ h. inr (refl, sym (ap number_of last_cell) ∙ h)) r l h
 
   one_place : (r q n : ℕ) → number_of (cell_in all r) ≡ Some n → number_of (cell_in all q) ≡ Some n → r < length all → q < length all → r ≡ q
   one_place r q n a b l m = elim (numbered r n l a) [
@@ -131,7 +131,7 @@ module _ (cells : List Cell) (d : Cell) (s s' : State) (u : Tree)
 pub kept_more : (ss : List Step) (cells : List Cell) (c : Cell) → AreKept ss cells → StandFor (cells ++ c ∷ []) (changed (made_by c) (state (changes_by ss cells))) → AreKept (Made ∷ ss) (cells ++ c ∷ [])
 unfolding state
 kept_more ss cells c k stand = (
-    subst (λ h. StandFor (cells ++ c ∷ []) (state h)) (sym (one_made ss cells c)) stand,
-    omega (arith, length-append cells (c ∷ [])),
-    subst (λ cs. AreKept ss cs) (sym (all_but_last cells c)) k,
-  )
+  subst (λ h. StandFor (cells ++ c ∷ []) (state h)) (sym (one_made ss cells c)) stand,
+  omega (arith, length-append cells (c ∷ [])),
+  subst (λ cs. AreKept ss cs) (sym (all_but_last cells c)) k,
+)

@@ -49,13 +49,13 @@ module _ (steps : List Step) (cells : List Cell) (n : ℕ) (k : IsKept steps cel
     unfolding state
     is_kept = record {
       kept = subst (λ ss. AreKept ss (cells ++ c ∷ [])) (sym (reverse-append steps (Made ∷ [])))
-      (kept_more (reverse steps) cells c k.kept (one_stands_more cells c before (changed (made_by c) before) t stands trees more fits new));
+          (kept_more (reverse steps) cells c k.kept (one_stands_more cells c before (changed (made_by c) before) t stands trees more fits new));
       count = count ∙ ap (λ h. (state h).created) (sym (made_changes steps cells c));
     }
 
     pub has_one_more : HasOneMore (changes_of steps cells) (changes_of (steps ++ Made ∷ []) (cells ++ c ∷ [])) (length cells) t
     has_one_more = subst (λ h. HasOneMore (changes_of steps cells) h (length cells) t) (sym (made_changes steps cells c))
-      (subst (λ r. HasOneMore (changes_of steps cells) (made_by c ∷ changes_of steps cells) r t) (sym place_is) (has_more (made_by c) (changes_of steps cells) t trees))
+        (subst (λ r. HasOneMore (changes_of steps cells) (made_by c ∷ changes_of steps cells) r t) (sym place_is) (has_more (made_by c) (changes_of steps cells) t trees))
 
   pub variable_kept : IsKept (steps ++ Made ∷ []) (cells ++ Unbound n ∷ []) (n + 1)
   variable_kept = is_kept (Unbound n) (variable before.created) (n + 1) refl (ap variable (sym k.count)) (omega arith) (λ i e. (omega (arith, some_is e, k.count), omega (arith, some_is e, k.count))) (omega (arith, k.count))

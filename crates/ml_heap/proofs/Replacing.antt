@@ -101,9 +101,9 @@ module _ (cells : List Cell) (s : State) (v n q : ℕ) (k : StandFor cells s) (i
   fit_each : (r : ℕ) → r < length with_bound → Fits replaced_trees with_bound (tree_in replaced_trees r) (cell_in with_bound r)
   fit_each r l = elim (eqb_tells r v) [
     | inl e ↦ subst (λ i. Fits replaced_trees with_bound (tree_in replaced_trees i) (cell_in with_bound i)) (sym e.1)
-      (subst (Fits replaced_trees with_bound (tree_in replaced_trees v)) (sym (get_or-set_same cells v (Bound n q) (Unbound 0) in_v)) fits_bound)
+        (subst (Fits replaced_trees with_bound (tree_in replaced_trees v)) (sym (get_or-set_same cells v (Bound n q) (Unbound 0) in_v)) fits_bound)
     | inr e ↦ subst (Fits replaced_trees with_bound (tree_in replaced_trees r)) (sym (get_or-set_other cells v r (Bound n q) (Unbound 0) e.1))
-      (subst (λ t. Fits replaced_trees with_bound t (cell_in cells r)) (sym (read r)) (fits_replaced (tree_in s.trees r) (cell_in cells r) (not_unbound r (omega (arith, same_length, l)) e.1) (k.fit r (omega (arith, same_length, l)))))
+        (subst (λ t. Fits replaced_trees with_bound t (cell_in cells r)) (sym (read r)) (fits_replaced (tree_in s.trees r) (cell_in cells r) (not_unbound r (omega (arith, same_length, l)) e.1) (k.fit r (omega (arith, same_length, l)))))
   ]
 
   pub bound_stands : StandFor with_bound (record { trees = replaced_trees; created = s.created })
@@ -150,7 +150,7 @@ module _ (steps : List Step) (cells : List Cell) (m v n q : ℕ) (k : IsKept ste
   all_kept : AreKept (Binding v q ∷ reverse steps) after_it
   all_kept = (
     subst (λ h. StandFor after_it (state h)) (sym (ap (λ h. variable_bound v q ∷ h) (one_replaced (reverse steps) cells v (Bound n q) made_alike)))
-    (subst (StandFor after_it) (sym state_after) (bound_stands cells earlier v n q stands in_v in_q at_v lower absent)),
+        (subst (StandFor after_it) (sym state_after) (bound_stands cells earlier v n q stands in_v in_q at_v lower absent)),
     omega (arith, length-set cells v (Bound n q), in_v),
     subst (AreKept (reverse steps)) (sym was_free) k.kept,
   )

@@ -36,12 +36,12 @@ abbrev none : Unit {0} → ℕ
 none r = 0
 
 falls : AlwaysFalls first second none next
-falls es = fall (turn (state_of es)) (turn_falls (state_of es))
+falls es = fall es (turn (state_of es)) (turn_falls (state_of es))
   where
-    fall : {es : List Equation} (x : Next Solving (Option Map)) → Falls variables_left nodes_left none_left (state_of es) x → Falls first second none es (next_of x)
-    fall (now (inl r)) f = omega arith
-    fall (now (inr s)) f = f
-    fall (ask s k) f = omega arith
+    fall : (es : List Equation) (x : Next Solving (Option Map)) → Falls variables_left nodes_left none_left (state_of es) x → Falls first second none es (next_of x)
+    fall es (now (inl r)) f = omega arith
+    fall es (now (inr s)) f = f
+    fall es (ask s k) f = omega arith
 
 -- how many turns are left
 pub rounds : List Equation → ℕ

@@ -10,6 +10,9 @@ use Rattle.ml_term.proofs.Solved.{solved_step, solved_none_left}
 use Rattle.ml_term.proofs.EqualSides.{same}
 use Rattle.ml_heap.specs.Changes.{tree_in}
 
+abbrev sides : Tree → Tree → Equation
+sides t u = (t, u)
+
 -- the equations of some pairs of cells, the latest pair first, before others
 abbrev pub stacked : List Tree → List Equation → List (ℕ × ℕ) → List Equation
 stacked ts es [] = es
@@ -27,7 +30,7 @@ all_replaced m ts es (p ∷ ps) =
     ap (λ e. stacked (map (applied m) ts) (e ∷ under m es) ps) (two (get_or-map (applied m) ts p.0 (integer (pos 0))) (get_or-map (applied m) ts p.1 (integer (pos 0))))
     ∙ all_replaced m ts ((tree_in ts p.0, tree_in ts p.1) ∷ es) ps
   where
-    two : {a b c d : Tree} → a ≡ b → c ≡ d → (a, c) ≡ (b, d)
+    two : {a b c d : Tree} → a ≡ b → c ≡ d → sides a c ≡ sides b d
     two e f = cc
 
 unchanged : (ts : List Tree) → map (applied []) ts ≡ ts

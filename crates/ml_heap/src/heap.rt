@@ -65,7 +65,11 @@ impl Heap {
             return Err(AllocError);
         }
         let at = Ref::at(self.cells.len());
-        push(&mut self.cells, &mut self.steps, Cell::Unbound(self.created))?;
+        push(
+            &mut self.cells,
+            &mut self.steps,
+            Cell::Unbound(self.created),
+        )?;
         self.created += 1;
         Ok(at)
     }
@@ -220,5 +224,33 @@ fn push(cells: &mut Vec<Cell>, steps: &mut Vec<Step>, cell: Cell) -> Result<(), 
             let _ = steps.pop();
             Err(AllocError::from(refused))
         }
+    }
+}
+
+#[cfg(test)]
+mod tests {
+    use super::*;
+    use std::test::Fail;
+
+    #[test]
+    fn a_cell_shows_what_it_was_made_for(rt: HostRuntime) -> Result<(), Fail> {
+        let mut heap = Heap::new(rt.alloc());
+        let var = heap.new_var()?;
+        let mark = heap.mark();
+        let seven = heap.new_int(7)?;
+        assert!(rt; matches!(heap.look(seven), Look::Int(7)));
+        heap.undo_to(mark);
+        assert!(rt; matches!(heap.look(var), Look::Var(_)));
+        let name = Name::new(rt.alloc(), b"a")?;
+        let atom = heap.new_atom(&name)?;
+        assert!(rt; matches!(heap.look(atom), Look::Atom(_)));
+        let pair = heap.new_cmp(&name, &[atom, atom])?;
+        assert!(rt; matches!(heap.look(pair), Look::Cmp(_, 2)));
+        let other = heap.new_var()?;
+        assert!(rt; heap.is_older(var, other));
+        heap.bind(other, pair)?;
+        assert!(rt; matches!(heap.look(other), Look::Cmp(_, 2)));
+        assert!(rt; matches!(heap.look(heap.arg(other, 1)), Look::Atom(_)));
+        Ok(())
     }
 }

@@ -3,6 +3,7 @@ use crate::place::Ref;
 use ml_term::Name;
 
 /// What a cell stands for, past bindings.
+#[derive(Clone, Copy)]
 pub enum Look<'a> {
     /// The cell of the unbound variable.
     Var(Ref),

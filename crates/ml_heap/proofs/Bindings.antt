@@ -1,6 +1,6 @@
 -- A binding made in the fields: what is kept, and what the heap is seen as.
-use Rattle.std.specs.Prelude.{◌≡◌, ℕ, ◌+◌, ◌<◌, ◌≤◌, false, List, [], ◌∷◌, ◌++◌, length, set}
-use Rattle.std.proofs.Common.{refl, sym, ap, ◌∙◌, subst, arith}
+use Rattle.std.specs.Prelude.{◌≡◌, ℕ, ◌<◌, ◌≤◌, false, List, [], ◌∷◌, ◌++◌, length, set}
+use Rattle.std.proofs.Common.{sym, ap, ◌∙◌, subst}
 use Rattle.ml_term.specs.Tree.{Tree, variable, integer, atom, compound, occurs}
 use Rattle.ml_heap.specs.Changes.{Changes, state, tree_in, stands_for, bound_in, KeepsMarks, MayBeBound, IsYounger, IsVariable}
 use Rattle.ml_heap.specs.declared.cell.Cell.{Cell}

@@ -1,14 +1,14 @@
 -- What a cell says of its tree.
-use Rattle.std.specs.Prelude.{◌≡◌, ℕ, suc, ◌+◌, ◌<◌, ◌≤◌, Bool, true, false, List, [], ◌∷◌, map, length, get_or, set}
-use Rattle.std.proofs.Common.{refl, sym, ap, ◌∙◌, subst, inl, inr, arith}
-use Rattle.ml_term.specs.Tree.{Tree, Trees, tree, no_trees, variable, integer, atom, compound, trees_of, is_ground, variables, variables_of}
+use Rattle.std.specs.Prelude.{◌≡◌, ℕ, suc, ◌<◌, true, List, [], ◌∷◌, map, length, get_or}
+use Rattle.std.proofs.Common.{ap, subst, inl, inr, arith}
+use Rattle.ml_term.specs.Tree.{Tree, compound, trees_of, is_ground, variables, variables_of}
 use Rattle.ml_term.proofs.Distinct.{In}
 use Rattle.ml_term.proofs.UnificationEnds.{in_either}
 use Rattle.ml_term.proofs.Ground.{no_variable, ground_without}
 use Rattle.ml_heap.specs.Changes.{tree_in}
 use Rattle.ml_heap.specs.declared.cell.Cell.{Cell}
 use Rattle.ml_heap.specs.declared.cell.Cell.TheVariants.{Unbound, Bound, Int, Atom, Cmp}
-use Rattle.ml_heap.specs.Layout.{cell_in, rank_of, Fits, FitAll, AreLinked, IsEnd, known_ground}
+use Rattle.ml_heap.specs.Layout.{cell_in, Fits, FitAll, AreLinked, known_ground}
 
 -- a cell that was read fits its tree
 pub fits_at : (ts : List Tree) (cells : List Cell) (r : ℕ) (c : Cell) → FitAll ts cells → r < length cells → cell_in cells r ≡ c → Fits ts cells (tree_in ts r) c

@@ -1,9 +1,9 @@
 -- What a heap's fields say of the trees that it is seen as.
-use Rattle.std.specs.Prelude.{◌≡◌, ℕ, suc, ◌+◌, ◌<◌, ◌≤◌, Bool, true, false, zero, List, [], ◌∷◌, map, reverse, length, get_or}
+use Rattle.std.specs.Prelude.{◌≡◌, ℕ, suc, ◌<◌, ◌≤◌, Bool, zero, List, [], ◌∷◌, map, reverse, length, get_or}
 use Rattle.std.proofs.Common.{refl, sym, ap, ◌∙◌, subst, arith}
 use Rattle.std.proofs.lemmas.List.{length-map, get_or_read}
-use Rattle.ml_term.specs.Tree.{Tree, Trees, variable, integer, atom, compound, trees_of, list_of, arity}
-use Rattle.ml_heap.specs.Changes.{Changes, State, state, tree_in, stands_for, cell_count, arguments_of, IsVariable, IsYounger, number}
+use Rattle.ml_term.specs.Tree.{Tree, compound, trees_of, list_of}
+use Rattle.ml_heap.specs.Changes.{Changes, state, tree_in, stands_for, cell_count, arguments_of, IsVariable, IsYounger}
 use Rattle.ml_heap.specs.declared.cell.Cell.{Cell}
 use Rattle.ml_heap.specs.declared.cell.Cell.TheVariants.{Unbound, Bound, Int, Atom, Cmp}
 use Rattle.ml_heap.specs.declared.cell.Step.{Step}

@@ -1,11 +1,11 @@
 -- Cells go on to stand for their trees when one is made, and when the last step is undone.
-use Rattle.std.specs.Prelude.{◌≡◌, ◌≢◌, ℕ, zero, suc, ◌+◌, ◌-◌, ◌<◌, ◌≤◌, true, ℤ, pos, List, [], ◌∷◌, ◌++◌, map, reverse, length, take, get_or, set, Option, Some, None, ◌⊎◌}
+use Rattle.std.specs.Prelude.{◌≡◌, ◌≢◌, ℕ, suc, ◌+◌, ◌-◌, ◌<◌, ◌≤◌, pos, List, [], ◌∷◌, ◌++◌, map, reverse, length, take, get_or, set, Some, ◌⊎◌}
 use Rattle.std.proofs.Common.{refl, sym, ap, ◌∙◌, subst, inl, inr, arith, length-append}
 use Rattle.std.proofs.lemmas.List.{map-append, reverse-append}
 use Rattle.std.proofs.Math.ListN.{get_or-append}
 use Rattle.std.proofs.Math.Seq.{get_or-append_seam, map-set_same}
-use Rattle.ml_term.specs.Tree.{Tree, compound, integer, trees_of, is_ground}
-use Rattle.ml_heap.specs.Changes.{Change, variable_made, integer_made, atom_made, compound_made, variable_bound, Changes, State, state, changed, tree_in}
+use Rattle.ml_term.specs.Tree.{Tree, compound, integer, trees_of}
+use Rattle.ml_heap.specs.Changes.{Change, variable_bound, State, state, changed, tree_in}
 use Rattle.ml_heap.specs.declared.cell.Cell.{Cell}
 use Rattle.ml_heap.specs.declared.cell.Cell.TheVariants.{Unbound, Bound, Int, Atom, Cmp}
 use Rattle.ml_heap.specs.declared.cell.Step.{Step}

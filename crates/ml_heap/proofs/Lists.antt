@@ -1,6 +1,6 @@
 -- A list with its last element, and lists made by a function.
-use Rattle.std.specs.Prelude.{◌≡◌, ℕ, zero, suc, ◌+◌, ◌-◌, ◌<◌, ◌≤◌, List, [], ◌∷◌, ◌++◌, map, length, take, get_or}
-use Rattle.std.proofs.Common.{refl, sym, ap, ◌∙◌, arith, length-append}
+use Rattle.std.specs.Prelude.{◌≡◌, ℕ, zero, suc, ◌-◌, ◌<◌, List, [], ◌∷◌, ◌++◌, map, length, take, get_or}
+use Rattle.std.proofs.Common.{refl, ap, ◌∙◌, arith, length-append}
 
 pub all_but_last : {A : Type 0} (xs : List A) (x : A) → take (length (xs ++ x ∷ []) - 1) (xs ++ x ∷ []) ≡ xs
 all_but_last xs x = ap (λ n. take n (xs ++ x ∷ [])) (numbers xs x) ∙ front xs x

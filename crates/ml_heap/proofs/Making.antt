@@ -1,14 +1,14 @@
 -- A cell that is made: what is kept, and what the new heap is.
-use Rattle.std.specs.Prelude.{◌≡◌, ℕ, suc, ◌+◌, ◌<◌, ◌≤◌, ℤ, List, [], ◌∷◌, ◌++◌, map, reverse, length, get_or, Bool, true, Some, None}
+use Rattle.std.specs.Prelude.{◌≡◌, ℕ, ◌+◌, ◌<◌, ◌≤◌, ℤ, List, [], ◌∷◌, ◌++◌, map, reverse, length, get_or, Bool, true, Some}
 use Rattle.std.proofs.Common.{refl, sym, ap, ◌∙◌, subst, arith, length-append}
 use Rattle.std.proofs.lemmas.List.{reverse-append, length-reverse}
 use Rattle.ml_term.specs.Tree.{Tree, variable, integer, atom, compound, trees_of, is_ground}
 use Rattle.ml_heap.specs.Changes.{Change, Changes, State, state, changed, tree_in, HasOneMore}
 use Rattle.ml_heap.specs.declared.cell.Cell.{Cell}
-use Rattle.ml_heap.specs.declared.cell.Cell.TheVariants.{Unbound, Bound, Int, Atom, Cmp}
+use Rattle.ml_heap.specs.declared.cell.Cell.TheVariants.{Unbound, Int, Atom, Cmp}
 use Rattle.ml_heap.specs.declared.cell.Step.{Step}
-use Rattle.ml_heap.specs.declared.cell.Step.TheVariants.{Made, Binding}
-use Rattle.ml_heap.specs.Layout.{made_by, changes_by, changes_of, number_of, Fits, StandFor, AreKept, IsKept}
+use Rattle.ml_heap.specs.declared.cell.Step.TheVariants.{Made}
+use Rattle.ml_heap.specs.Layout.{made_by, changes_of, number_of, Fits, StandFor, AreKept, IsKept}
 use Rattle.ml_heap.proofs.MarksStay.{marks_kept}
 use Rattle.ml_heap.proofs.Keeping.{one_made, counted, stand_now, tree_stays, one_stands_more, kept_more}
 use Rattle.ml_heap.proofs.Lists.{map_alike}

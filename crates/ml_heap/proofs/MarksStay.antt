@@ -1,5 +1,5 @@
 -- Marks go on to stand for the same heaps, however many changes come after them.
-use Rattle.std.specs.Prelude.{◌≡◌, ℕ, suc, ◌-◌, ◌<◌, ◌≤◌, List, [], ◌∷◌, length, drop, ◌⊎◌}
+use Rattle.std.specs.Prelude.{◌≡◌, ℕ, suc, ◌-◌, ◌<◌, ◌≤◌, [], ◌∷◌, length, drop, ◌⊎◌}
 use Rattle.std.proofs.Common.{refl, sym, ap, ◌∙◌, inl, inr, arith, length-drop}
 use Rattle.ml_heap.specs.Changes.{Change, Changes, heap_of_mark, KeepsMarks}
 

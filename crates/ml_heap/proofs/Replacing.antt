@@ -1,21 +1,21 @@
 -- To bind a variable's cell is to replace the variable in every tree.
-use Rattle.std.specs.Prelude.{◌≡◌, ◌≢◌, ℕ, suc, zero, ◌+◌, ◌<◌, ◌≤◌, ◌==◌, true, false, Bool, ◌⊎◌, ℤ, pos, List, [], ◌∷◌, ◌++◌, map, reverse, length, get_or, set, cond, Some}
+use Rattle.std.specs.Prelude.{◌≡◌, ◌≢◌, ℕ, suc, zero, ◌<◌, ◌≤◌, ◌==◌, true, false, ◌⊎◌, pos, List, [], ◌∷◌, ◌++◌, map, reverse, length, get_or, set, cond}
 use Rattle.std.proofs.Common.{refl, sym, ap, ◌∙◌, subst, inl, inr, arith}
 use Rattle.std.proofs.lemmas.List.{length-set, get_or-set_same, get_or-set_other, reverse-append}
 use Rattle.std.proofs.lemmas.List as L
 use Rattle.std.proofs.Math.ListN.{get_or-map}
 use Rattle.std.proofs.lemmas.Bool.Decides.{eqb_tells}
-use Rattle.ml_term.specs.Tree.{Tree, Trees, variable, integer, atom, compound, tree, no_trees, trees_of, is_ground, occurs, substituted, substituted_in, variables, has}
+use Rattle.ml_term.specs.Tree.{Tree, variable, integer, compound, trees_of, is_ground, occurs, substituted, substituted_in, variables}
 use Rattle.ml_term.specs.Unify.{applied, binding, value_of}
 use Rattle.ml_term.proofs.Ground.{ground_stays}
 use Rattle.ml_term.proofs.Substitution.{alike, as_it_is}
 use Rattle.ml_term.proofs.Distinct.{In}
-use Rattle.ml_heap.specs.Changes.{Change, variable_made, variable_bound, Changes, State, state, changed, bound_in, tree_in, KeepsMarks}
+use Rattle.ml_heap.specs.Changes.{variable_bound, State, state, changed, bound_in, tree_in, KeepsMarks}
 use Rattle.ml_heap.specs.declared.cell.Cell.{Cell}
 use Rattle.ml_heap.specs.declared.cell.Cell.TheVariants.{Unbound, Bound, Int, Atom, Cmp}
 use Rattle.ml_heap.specs.declared.cell.Step.{Step}
-use Rattle.ml_heap.specs.declared.cell.Step.TheVariants.{Made, Binding}
-use Rattle.ml_heap.specs.Layout.{made_by, changes_by, changes_of, cell_in, number_of, rank_of, Fits, StandFor, freed, AreKept, IsKept}
+use Rattle.ml_heap.specs.declared.cell.Step.TheVariants.{Binding}
+use Rattle.ml_heap.specs.Layout.{made_by, changes_of, cell_in, number_of, rank_of, Fits, StandFor, freed, AreKept, IsKept}
 use Rattle.ml_heap.proofs.Keeping.{one_replaced, stand_now}
 use Rattle.ml_heap.proofs.MarksStay.{marks_kept}
 

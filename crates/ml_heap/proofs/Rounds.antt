@@ -1,12 +1,12 @@
 -- How many turns the equations of unification take, whatever map there is: the measure of a worklist.
-use Rattle.std.specs.Prelude.{◌≡◌, ℕ, ◌+◌, ◌<◌, ◌≤◌, ◌⊎◌, List, [], ◌∷◌, ◌++◌, Option}
-use Rattle.std.proofs.Common.{inl, inr, refl, sym, ap, ◌∙◌, subst, arith}
+use Rattle.std.specs.Prelude.{◌≡◌, ℕ, ◌<◌, ◌≤◌, List, [], ◌∷◌, ◌++◌, Option}
+use Rattle.std.proofs.Common.{inl, inr, refl, ap, arith}
 use Rattle.std.proofs.lemmas.Bool.Decides.{Decides-int_eq}
 use Rattle.std.proofs.lemmas.Bool.{eq-eqb}
 use Rattle.std.proofs.lemmas.Slice.Eq.{bytes_eq-Decides}
 use Rattle.std.specs.List.{zip}
 use Rattle.ml_term.specs.Tree.{Tree, Trees, variable, integer, atom, compound, no_trees, tree, list_of, arity}
-use Rattle.ml_term.specs.Unify.{Equation, Map, Step, dropped, split, bound, clash, step, Solving, after, turn, variables_left, nodes_left}
+use Rattle.ml_term.specs.Unify.{Equation, Map, dropped, split, bound, step, Solving, after, turn, variables_left, nodes_left}
 use Rattle.ml_term.specs.Unifiers.{under}
 use Rattle.ml_term.specs.Unify.{binding}
 use Rattle.ml_term.specs.Runs.{Next, now, ask}

@@ -1,11 +1,11 @@
 -- A worklist of equations between cells: what its rules lead to, as trees of the heap.
-use Rattle.std.specs.Prelude.{◌≡◌, ℕ, ◌+◌, ◌<◌, ℤ, pos, List, [], ◌∷◌, ◌++◌, map, Option, Some, None}
-use Rattle.std.proofs.Common.{refl, sym, ap, ◌∙◌, subst, arith}
+use Rattle.std.specs.Prelude.{◌≡◌, ℕ, pos, List, [], ◌∷◌, ◌++◌, map, Some, None}
+use Rattle.std.proofs.Common.{refl, sym, ap, ◌∙◌}
 use Rattle.std.proofs.Math.ListN.{get_or-map}
-use Rattle.ml_term.specs.Tree.{Tree, variable, integer}
-use Rattle.ml_term.specs.Unify.{Equation, Map, Step, dropped, split, bound, clash, step, applied, binding, solved, unifier}
+use Rattle.ml_term.specs.Tree.{Tree, integer}
+use Rattle.ml_term.specs.Unify.{Equation, Map, dropped, split, bound, clash, step, applied, binding, solved, unifier}
 use Rattle.ml_term.specs.Unifiers.{under, followed_by, solved_by_step}
-use Rattle.ml_term.proofs.MapsFollow.{applied_followed, applied_empty, followed_by_empty, under_empty}
+use Rattle.ml_term.proofs.MapsFollow.{applied_followed, applied_empty, followed_by_empty}
 use Rattle.ml_term.proofs.Solved.{solved_step, solved_none_left}
 use Rattle.ml_term.proofs.EqualSides.{same}
 use Rattle.ml_heap.specs.Changes.{tree_in}

@@ -1,8 +1,8 @@
 -- The latest step undone: what is kept, and that one change is undone.
-use Rattle.std.specs.Prelude.{◌≡◌, ℕ, suc, ◌+◌, ◌-◌, ◌<◌, ◌≤◌, Bool, true, false, cond, List, [], ◌∷◌, ◌++◌, map, reverse, length, take, drop, get_or}
+use Rattle.std.specs.Prelude.{◌≡◌, ℕ, ◌+◌, ◌-◌, ◌<◌, ◌≤◌, true, false, cond, List, [], ◌∷◌, reverse, length, take, drop}
 use Rattle.std.proofs.Common.{refl, sym, ap, ◌∙◌, subst, arith}
 use Rattle.std.proofs.lemmas.List.{reverse-append}
-use Rattle.ml_heap.specs.Changes.{Change, Changes, State, state, changed}
+use Rattle.ml_heap.specs.Changes.{Changes, State, state, changed}
 use Rattle.ml_heap.specs.declared.cell.Cell.{Cell}
 use Rattle.ml_heap.specs.declared.cell.Cell.TheVariants.{Unbound, Bound, Int, Atom, Cmp}
 use Rattle.ml_heap.specs.declared.cell.Step.{Step}

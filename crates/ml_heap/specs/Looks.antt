@@ -1,5 +1,5 @@
 -- What is seen of a cell.
-use Rattle.std.specs.Prelude.{◌≡◌, ◌<◌, ℕ, length}
+use Rattle.std.specs.Prelude.{◌≡◌, ◌<◌, length}
 use Rattle.ml_term.specs.Tree.{Tree, integer, atom, compound, trees_of}
 use Rattle.ml_heap.specs.Changes.{Changes, cell_count, stands_for, arguments_of, IsVariable}
 use Rattle.ml_heap.specs.declared.look.Look.{Look}

@@ -233,7 +233,7 @@ mod tests {
     use std::test::Fail;
 
     #[test]
-    fn a_cell_shows_what_it_was_made_for(rt: HostRuntime) -> Result<(), Fail> {
+    fn an_undone_heap_shows_what_it_showed(rt: HostRuntime) -> Result<(), Fail> {
         let mut heap = Heap::new(rt.alloc());
         let var = heap.new_var()?;
         let mark = heap.mark();
@@ -241,16 +241,20 @@ mod tests {
         assert!(rt; matches!(heap.look(seven), Look::Int(7)));
         heap.undo_to(mark);
         assert!(rt; matches!(heap.look(var), Look::Var(_)));
+        assert!(rt; !heap.is_older(var, var));
+        Ok(())
+    }
+
+    #[test]
+    fn a_bound_variable_shows_what_it_is_bound_to(rt: HostRuntime) -> Result<(), Fail> {
+        let mut heap = Heap::new(rt.alloc());
         let name = Name::new(rt.alloc(), b"a")?;
         let atom = heap.new_atom(&name)?;
-        assert!(rt; matches!(heap.look(atom), Look::Atom(_)));
         let pair = heap.new_cmp(&name, &[atom, atom])?;
-        assert!(rt; matches!(heap.look(pair), Look::Cmp(_, 2)));
-        let other = heap.new_var()?;
-        assert!(rt; heap.is_older(var, other));
-        heap.bind(other, pair)?;
-        assert!(rt; matches!(heap.look(other), Look::Cmp(_, 2)));
-        assert!(rt; matches!(heap.look(heap.arg(other, 1)), Look::Atom(_)));
+        let var = heap.new_var()?;
+        heap.bind(var, pair)?;
+        assert!(rt; matches!(heap.look(var), Look::Cmp(_, 2)));
+        assert!(rt; matches!(heap.look(heap.arg(var, 1)), Look::Atom(_)));
         Ok(())
     }
 }

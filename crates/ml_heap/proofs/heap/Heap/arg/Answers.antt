@@ -1,10 +1,8 @@
 -- The argument's cell is one of the compound's.
 use Rattle.std.proofs.Common.{get_or, ◌≡◌, ap, sym, ◌∙◌, subst, arith, length}
-use Rattle.ml_heap.specs.declared.cell.Cell.{Cell}
-use Rattle.ml_heap.specs.declared.cell.Cell.TheVariants.{Unbound, Bound, Int, Atom, Cmp}
-use Rattle.ml_heap.specs.Changes.{state, stands_for, IsVariable, number, tree_in, arguments_of}
+use Rattle.ml_heap.specs.Changes.{state, stands_for}
 use Rattle.ml_heap.specs.Layout.{Fits}
-use Rattle.ml_heap.proofs.Inside.{stands, are_linked, is_inside, end_inside, same_tree, found, is_end, shows_compound, has_argument, variable_is_unbound, compound_is_one}
+use Rattle.ml_heap.proofs.Inside.{are_linked, is_inside, found, is_end, has_argument, compound_is_one}
 use Rattle.ml_heap.proofs.heap.Heap.arg.Goals as goal
 
 pub end_of-end-requires-clause-inside : goal.end_of-end-requires-clause-inside

@@ -1,8 +1,7 @@
 -- The variable's cell is unbound, and leads to the other cell from now on.
-use Rattle.std.proofs.Common.{◌≡◌, ap, sym, ◌∙◌, subst, arith, length}
-use Rattle.ml_heap.specs.declared.cell.Cell.{Cell}
+use Rattle.std.proofs.Common.{◌≡◌, ◌∙◌, subst, arith}
 use Rattle.ml_heap.specs.declared.cell.Cell.TheVariants.{Unbound}
-use Rattle.ml_heap.specs.Changes.{state, stands_for, MayBeBound, IsVariable}
+use Rattle.ml_heap.specs.Changes.{stands_for}
 use Rattle.ml_heap.specs.Layout.{cell_in, IsEnd}
 use Rattle.ml_heap.proofs.Inside.{are_linked, is_inside, end_inside, same_tree, cell_is, found, is_end, variable_is_unbound}
 use Rattle.ml_heap.proofs.Bindings.{binding_is_kept, trees_bound, none_counted, marks_bound, must_be_variable}

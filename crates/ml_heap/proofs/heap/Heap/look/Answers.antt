@@ -1,12 +1,10 @@
 -- What the cell at the end of the bindings says.
 use Rattle.std.proofs.lemmas.Int.{to_z-of_z}
 use Rattle.ml_term.specs.Tree.{integer}
-use Rattle.std.proofs.Common.{rules, w64, SFits, ◌≡◌, ap, sym, ◌∙◌, subst, arith, length}
-use Rattle.ml_heap.specs.declared.cell.Cell.{Cell}
-use Rattle.ml_heap.specs.declared.cell.Cell.TheVariants.{Unbound, Bound, Int, Atom, Cmp}
-use Rattle.ml_heap.specs.Changes.{state, stands_for, IsVariable, number, tree_in, arguments_of}
+use Rattle.std.proofs.Common.{rules, w64, SFits, ap, sym, ◌∙◌, subst, arith, length}
+use Rattle.ml_heap.specs.Changes.{state, stands_for, IsVariable}
 use Rattle.ml_heap.specs.Layout.{Fits}
-use Rattle.ml_heap.proofs.Inside.{stands, are_linked, is_inside, end_inside, same_tree, found, is_end, shows_compound, has_argument, variable_is_unbound, compound_is_one}
+use Rattle.ml_heap.proofs.Inside.{stands, are_linked, is_inside, end_inside, same_tree, found, shows_compound}
 use Rattle.ml_heap.proofs.heap.Heap.look.Goals as goal
 
 pub end_of-end-requires-clause-inside : goal.end_of-end-requires-clause-inside

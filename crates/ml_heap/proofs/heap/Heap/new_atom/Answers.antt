@@ -1,6 +1,6 @@
 -- An atom is made.
-use Rattle.std.proofs.Common.{◌≡◌, ◌+◌, ◌++◌, ◌∷◌, [], ap, sym, ◌∙◌, refl, arith, length}
-use Rattle.ml_heap.specs.declared.cell.Cell.TheVariants.{Unbound, Int, Atom, Cmp}
+use Rattle.std.proofs.Common.{◌≡◌, ◌++◌, ◌∷◌, [], refl, arith, length}
+use Rattle.ml_heap.specs.declared.cell.Cell.TheVariants.{Atom}
 use Rattle.ml_heap.specs.declared.cell.Step.TheVariants.{Made}
 use Rattle.ml_heap.proofs.Making.{atom_kept, one_atom, none_created, kept_as, more_as, count_as}
 use Rattle.ml_heap.proofs.heap.Heap.new_atom.Goals as goal

@@ -1,5 +1,5 @@
 -- A compound is made, and marked as ground where all its arguments are known to be.
-use Rattle.std.proofs.Common.{◌≡◌, ◌+◌, ◌<◌, ◌++◌, ◌∷◌, [], ℕ, true, map, ap, sym, ◌∙◌, refl, subst, arith, length, get_or}
+use Rattle.std.proofs.Common.{◌≡◌, ◌<◌, ◌++◌, ◌∷◌, [], ℕ, true, map, ap, ◌∙◌, refl, subst, arith, length, get_or}
 use Rattle.ml_term.specs.Tree.{is_ground, compound, trees_of}
 use Rattle.ml_heap.specs.Changes.{Changes, HasOneMore, state, tree_in, stands_for}
 use Rattle.ml_heap.specs.Layout.{changes_of}

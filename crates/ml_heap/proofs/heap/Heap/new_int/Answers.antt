@@ -3,8 +3,8 @@ use Rattle.std.proofs.lemmas.Int.{to_z-of_z}
 use mir.Val.{to_z, of_z}
 use Rattle.std.specs.Prelude.{List, ℤ}
 use Rattle.ml_heap.specs.declared.cell.Cell.{Cell}
-use Rattle.std.proofs.Common.{w64, SFits, ◌≡◌, ◌+◌, ◌++◌, ◌∷◌, [], ap, sym, ◌∙◌, refl, arith, length}
-use Rattle.ml_heap.specs.declared.cell.Cell.TheVariants.{Unbound, Int, Atom, Cmp}
+use Rattle.std.proofs.Common.{w64, SFits, ◌≡◌, ◌++◌, ◌∷◌, [], ap, ◌∙◌, refl, arith, length}
+use Rattle.ml_heap.specs.declared.cell.Cell.TheVariants.{Int}
 use Rattle.ml_heap.specs.declared.cell.Step.TheVariants.{Made}
 use Rattle.ml_heap.proofs.Making.{integer_kept, one_integer, none_created, kept_as, more_as, count_as}
 use Rattle.ml_heap.proofs.heap.Heap.new_int.Goals as goal

@@ -1,6 +1,6 @@
 -- A variable is made, with the next number.
-use Rattle.std.proofs.Common.{◌≡◌, ◌+◌, ◌++◌, ◌∷◌, [], ap, sym, ◌∙◌, refl, arith, length}
-use Rattle.ml_heap.specs.declared.cell.Cell.TheVariants.{Unbound, Int, Atom, Cmp}
+use Rattle.std.proofs.Common.{◌≡◌, ◌+◌, ◌++◌, ◌∷◌, [], ap, sym, refl, arith, length}
+use Rattle.ml_heap.specs.declared.cell.Cell.TheVariants.{Unbound}
 use Rattle.ml_heap.specs.declared.cell.Step.TheVariants.{Made}
 use Rattle.ml_heap.proofs.Making.{variable_kept, one_variable, one_created, kept_as, more_as, count_as}
 use Rattle.ml_heap.specs.Changes.{state}

@@ -1,10 +1,8 @@
 -- The cell at the end of the bindings has the number.
-use Rattle.std.proofs.Common.{◌≡◌, ap, sym, ◌∙◌, subst, arith, length}
-use Rattle.ml_heap.specs.declared.cell.Cell.{Cell}
-use Rattle.ml_heap.specs.declared.cell.Cell.TheVariants.{Unbound, Bound, Int, Atom, Cmp}
-use Rattle.ml_heap.specs.Changes.{state, stands_for, IsVariable, number, tree_in, arguments_of}
+use Rattle.std.proofs.Common.{ap, sym, subst, arith}
+use Rattle.ml_heap.specs.Changes.{state, stands_for, number}
 use Rattle.ml_heap.specs.Layout.{Fits}
-use Rattle.ml_heap.proofs.Inside.{stands, are_linked, is_inside, end_inside, same_tree, found, is_end, shows_compound, has_argument, variable_is_unbound, compound_is_one}
+use Rattle.ml_heap.proofs.Inside.{are_linked, is_inside, found, is_end, variable_is_unbound}
 use Rattle.ml_heap.proofs.heap.Heap.number_at.Goals as goal
 
 pub end_of-end-requires-clause-inside : goal.end_of-end-requires-clause-inside

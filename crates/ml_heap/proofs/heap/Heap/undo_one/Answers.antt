@@ -1,6 +1,5 @@
 -- One change less.
-use Rattle.std.proofs.Common.{◌≡◌, ◌<◌, ap, sym, ◌∙◌, refl, arith, length, true, false}
-use Rattle.ml_heap.specs.Layout.{last_step, unmakes}
+use Rattle.std.proofs.Common.{◌<◌, ap, sym, refl, arith, length}
 use Rattle.ml_heap.proofs.Making.{as_many_steps, kept_as}
 use Rattle.ml_heap.proofs.Undoing.{is_step, one_less, kept_with_less, kept_with_same, rest_is}
 use Rattle.ml_heap.proofs.heap.Heap.undo_one.Goals as goal

@@ -1,0 +1,11 @@
+pub mod Lists
+pub mod MarksStay
+pub mod Keeping
+pub mod Making
+pub mod Replacing
+pub mod CellsSay
+pub mod Inside
+pub mod Undoing
+pub mod Bindings
+pub mod Solving
+pub mod Rounds

@@ -1,0 +1,126 @@
+-- How cells are laid out: what a heap's fields say of the changes that were made, and when the cells are those of the changes.
+use Rattle.std.specs.Prelude.{◌≡◌, ◌-◌, ◌<◌, ◌≤◌, ◌+◌, ℕ, Bool, true, false, List, [], ◌∷◌, map, reverse, length, take, slice_index_or, slice_set, Option, Some, None}
+use Rattle.ml_term.specs.Tree.{Tree, variable, integer, atom, compound, trees_of, is_ground}
+use Rattle.ml_heap.specs.Changes.{Change, variable_made, integer_made, atom_made, compound_made, variable_bound, Changes, State, state, tree_in}
+use Rattle.ml_heap.specs.declared.cell.Cell.{Cell}
+use Rattle.ml_heap.specs.declared.cell.Cell.TheVariants.{Unbound, Bound, Int, Atom, Cmp}
+use Rattle.ml_heap.specs.declared.cell.Step.{Step}
+use Rattle.ml_heap.specs.declared.cell.Step.TheVariants.{Made, Binding}
+
+-- the change by which a cell was made
+abbrev pub made_by : Cell → Change
+made_by (Unbound n) = variable_made
+made_by (Bound n q) = variable_made
+made_by (Int z) = integer_made z
+made_by (Atom f) = atom_made f
+made_by (Cmp f qs g) = compound_made f qs
+
+-- cells made and bindings in the order of the steps, the latest first
+abbrev pub interleaved : List Step → List Change → List Change
+interleaved [] ms = []
+interleaved (Made ∷ ss) [] = interleaved ss []
+interleaved (Made ∷ ss) (m ∷ ms) = m ∷ interleaved ss ms
+interleaved (Binding v q ∷ ss) ms = variable_bound v q ∷ interleaved ss ms
+
+-- the changes that led to some cells, by the steps, the latest first
+abbrev pub changes_by : List Step → List Cell → Changes
+changes_by ss cells = interleaved ss (reverse (map made_by cells))
+
+-- the same by the steps as they are kept, the latest last
+abbrev pub changes_of : List Step → List Cell → Changes
+changes_of steps cells = changes_by (reverse steps) cells
+
+-- the cell at a place, and 0 past the end
+abbrev pub cell_in : List Cell → ℕ → Cell
+cell_in cells r = slice_index_or cells r (Unbound 0)
+
+-- the number of a cell's variable
+abbrev pub number_of : Cell → Option ℕ
+number_of (Unbound n) = Some n
+number_of (Bound n q) = Some n
+number_of _ = None
+
+-- a cell of a variable has a rank above those of older variables, and above those of all other cells
+abbrev pub rank_of : Cell → ℕ
+rank_of (Unbound n) = n + 1
+rank_of (Bound n q) = n + 1
+rank_of _ = 0
+
+-- Whether a cell fits its tree, where the others stand for theirs. A bound one leads to a cell of a lower rank. What is marked as ground is ground.
+abbrev pub Fits : List Tree → List Cell → Tree → Cell → Type 0
+Fits ts cells t (Unbound n) = t ≡ variable n
+Fits ts cells t (Bound n q) = (t ≡ tree_in ts q) × (q < length cells) × (rank_of (cell_in cells q) ≤ n)
+Fits ts cells t (Int z) = t ≡ integer z
+Fits ts cells t (Atom f) = t ≡ atom f
+Fits ts cells t (Cmp f qs g) = (t ≡ compound f (trees_of (map (tree_in ts) qs))) × ((i : ℕ) → i < length qs → slice_index_or qs i 0 < length cells) × (g ≡ true → is_ground t ≡ true)
+
+-- Cells that stand for the trees of a state. No two are of one variable.
+pub record StandFor (cells : List Cell) (s : State) : Type 0 where
+  pub size : length s.trees ≡ length cells
+  pub fit : (r : ℕ) → r < length cells → Fits s.trees cells (tree_in s.trees r) (cell_in cells r)
+  pub apart : (r q n : ℕ) → number_of (cell_in cells r) ≡ Some n → number_of (cell_in cells q) ≡ Some n → r < length cells → q < length cells → r ≡ q
+  pub created : (r n : ℕ) → r < length cells → number_of (cell_in cells r) ≡ Some n → n < s.created
+
+-- a bound cell becomes unbound
+abbrev pub freed : Cell → Cell
+freed (Bound n q) = Unbound n
+freed c = c
+
+-- the cells before a step
+abbrev pub before : Step → List Cell → List Cell
+before Made cells = take (length cells - 1) cells
+before (Binding v q) cells = slice_set cells v (freed (cell_in cells v))
+
+-- a step is one of some cells
+abbrev pub IsStepOf : Step → List Cell → Type 0
+IsStepOf Made cells = 0 < length cells
+IsStepOf (Binding v q) cells = v < length cells
+
+-- The cells stand for what the changes give, and did so before each step. The steps are the latest first.
+abbrev pub AreKept : List Step → List Cell → Type 0
+AreKept [] cells = cells ≡ []
+AreKept (s ∷ ss) cells = StandFor cells (state (changes_by (s ∷ ss) cells)) × IsStepOf s cells × AreKept ss (before s cells)
+
+-- What a heap's fields keep: the steps are the latest last, and variables are counted.
+pub record IsKept (steps : List Step) (cells : List Cell) (n : ℕ) : Type 0 where
+  pub kept : AreKept (reverse steps) cells
+  pub count : n ≡ (state (changes_of steps cells)).created
+
+-- a cell that isn't bound
+abbrev pub IsEnd : Cell → Type 0
+IsEnd (Bound n q) = ⊥
+IsEnd _ = Unit {0}
+
+-- bound cells lead to cells of lower ranks
+abbrev pub AreLinked : List Cell → Type 0
+AreLinked cells = (r n q : ℕ) → r < length cells → cell_in cells r ≡ Bound n q → (q < length cells) × (rank_of (cell_in cells q) ≤ n)
+
+-- bound cells have the trees of the cells that they lead to
+abbrev pub FollowLinks : List Tree → List Cell → Type 0
+FollowLinks ts cells = (r n q : ℕ) → r < length cells → cell_in cells r ≡ Bound n q → tree_in ts r ≡ tree_in ts q
+
+-- a cell that is known to be ground: its marks say so
+abbrev pub known_ground : Cell → Bool
+known_ground (Int z) = true
+known_ground (Atom f) = true
+known_ground (Cmp f qs g) = g
+known_ground _ = false
+
+-- all cells fit their trees
+abbrev pub FitAll : List Tree → List Cell → Type 0
+FitAll ts cells = (r : ℕ) → r < length cells → Fits ts cells (tree_in ts r) (cell_in cells r)
+
+-- whether a cell is one of a variable
+abbrev pub of_variable : Cell → Bool
+of_variable (Unbound n) = true
+of_variable (Bound n q) = true
+of_variable _ = false
+
+-- the latest step, where the latest is last
+abbrev pub last_step : List Step → Step
+last_step steps = slice_index_or steps (length steps - 1) Made
+
+-- whether there is a variable less before a step
+abbrev pub unmakes : Step → List Cell → Bool
+unmakes Made cells = of_variable (cell_in cells (length cells - 1))
+unmakes (Binding v q) cells = false

@@ -1,0 +1,119 @@
+//! What is read of cells and done to one of them.
+ghost use Rattle.std.specs.Prelude.{◌≡◌, ◌<◌, ℕ, List, length, IsTrue, true, slice_index, slice_set, IfOk, take, ◌-◌};
+ghost use Rattle.ml_term.specs.Tree.{Tree, is_ground};
+ghost use Rattle.ml_heap.specs.Changes.{tree_in};
+ghost use Rattle.ml_heap.specs.Layout.{cell_in, IsEnd, AreLinked, FitAll, known_ground, of_variable, freed, before, last_step, unmakes, IsStepOf};
+
+use crate::cell::{Cell, Step};
+use crate::place::Ref;
+use std::alloc::{AllocError, Global};
+
+/// The place of the cell at the end of the bindings.
+pub fn end_of(cells: &[Cell], at: usize) -> usize
+    requires inside { at < length cells.now }
+    requires linked { AreLinked cells.now }
+    ensures inside { result < length cells.now }
+    ensures end { IsEnd (cell_in cells.now result) }
+    ensures same { (ts : List Tree) → FitAll ts cells.now → tree_in ts result ≡ tree_in ts at }
+{
+    let mut end = at;
+    while let Cell::Bound(_, next) = &cells[end] {
+        end = *next;
+    }
+    end
+}
+
+/// Whether a cell is known to be ground without a walk.
+fn is_known_ground(cell: &Cell) -> bool
+    ensures { result ≡ known_ground cell.now }
+{
+    match cell {
+        Cell::Int(_) | Cell::Atom(_) => true,
+        Cell::Cmp(_, _, ground) => *ground,
+        _ => false,
+    }
+}
+
+/// Whether a cell is known to stand for a ground term, past bindings.
+pub fn is_ground_at(cells: &[Cell], at: Ref) -> bool
+    requires inside { at < length cells.now }
+    requires linked { AreLinked cells.now }
+    ensures { IsTrue result → (ts : List Tree) → FitAll ts cells.now → is_ground (tree_in ts at) ≡ true }
+{
+    let end = end_of(cells, at.place());
+    is_known_ground(&cells[end])
+}
+
+/// Whether some cells are all known to stand for ground terms.
+pub fn are_ground(cells: &[Cell], args: &[Ref]) -> bool
+    requires inside { (i : ℕ) → i < length args.now → slice_index args.now i < length cells.now }
+    requires linked { AreLinked cells.now }
+    ensures { IsTrue result → (ts : List Tree) → FitAll ts cells.now → (i : ℕ) → i < length args.now → is_ground (tree_in ts (slice_index args.now i)) ≡ true }
+{
+    for arg in args {
+        if !is_ground_at(cells, *arg) {
+            return false;
+        }
+    }
+    true
+}
+
+/// Whether a cell is one of a variable.
+pub fn is_of_variable(cell: &Cell) -> bool
+    ensures { result ≡ of_variable cell.now }
+{
+    matches!(cell, Cell::Unbound(_) | Cell::Bound(_, _))
+}
+
+/// Makes a bound cell unbound.
+fn free(cells: &mut Vec<Cell>, at: usize)
+    requires { at < length cells.old.items }
+    ensures { cells.new.items ≡ slice_set cells.old.items at (freed (cell_in cells.old.items at)) }
+{
+    if let Cell::Bound(n, _) = cells[at] {
+        cells[at] = Cell::Unbound(n);
+    }
+}
+
+/// Takes the last cell out, and says whether it was one of a variable.
+fn unmake(cells: &mut Vec<Cell>) -> bool
+    requires { 0 < length cells.old.items }
+    ensures cells { cells.new.items ≡ take (length cells.old.items - 1) cells.old.items }
+    ensures variable { result ≡ of_variable (cell_in cells.old.items (length cells.old.items - 1)) }
+{
+    let last = cells.len() - 1;
+    let variable = is_of_variable(&cells[last]);
+    cells.truncate(last);
+    variable
+}
+
+/// Undoes the latest step, and says whether a variable was taken out.
+pub fn undo_step(steps: &mut Vec<Step>, cells: &mut Vec<Cell>) -> bool
+    requires some { 0 < length steps.old.items }
+    requires fits { IsStepOf (last_step steps.old.items) cells.old.items }
+    ensures steps { steps.new.items ≡ take (length steps.old.items - 1) steps.old.items }
+    ensures cells { cells.new.items ≡ before (last_step steps.old.items) cells.old.items }
+    ensures variable { result ≡ unmakes (last_step steps.old.items) cells.old.items }
+{
+    let last = steps.len() - 1;
+    let step = steps[last];
+    steps.truncate(last);
+    match step {
+        Step::Made => unmake(cells),
+        Step::Binding(var, _) => {
+            free(cells, var);
+            false
+        }
+    }
+}
+
+/// The places of some cells.
+pub fn places_of(alloc: Global, cells: &[Ref]) -> Result<Vec<usize>, AllocError>
+    ensures { IfOk result (λ places. places.items ≡ cells.now) }
+{
+    let mut places = Vec::new(alloc);
+    for cell in cells {
+        places.push(cell.place())?;
+    }
+    Ok(places)
+}

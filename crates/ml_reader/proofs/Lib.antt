@@ -8,3 +8,5 @@ pub mod Views
 pub mod ReadingLaws
 pub mod ReadingSteps
 pub mod OneStop
+pub mod Over
+pub mod Depths

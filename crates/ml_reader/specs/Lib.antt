@@ -9,3 +9,6 @@ pub mod Rows
 pub mod Tokens
 pub mod Reading
 pub mod Standing
+pub mod ContextSeen
+pub mod Limits
+pub mod LimitsSeen

@@ -7,16 +7,22 @@
 #![tactic(auto)]
 
 mod building;
+mod context;
+mod fault;
 mod frames;
 pub mod grammar_laws;
 mod innermost;
 mod lexeme;
+mod limited;
+mod limits;
 mod operators;
 mod parser;
 #[cfg(test)]
 mod tests;
 
+pub use fault::{ReadFault, ReadKind};
 pub use frames::{Arguments, Bracket, Frame, Next, Refusal, State};
 pub use lexeme::{Lexeme, Magnitude, Mark, Names, Read};
+pub use limits::{INTEGER_OFFSET, MOST_ARGUMENTS, MOST_LEVELS, MOST_NODES, MOST_TOKENS};
 pub use operators::Sides;
 pub use parser::step;

@@ -17,7 +17,8 @@ use crate::operators::{Sides, infix_of, is, is_operator, prefix_of};
 use ml_term::{Name, Term};
 use std::alloc::{AllocError, Global};
 
-fn closes(lexeme: &Lexeme) -> bool
+/// Whether a token ends an operand.
+pub fn closes(lexeme: &Lexeme) -> bool
     ensures { result ≡ closes_of (lexeme_seen lexeme.now) }
 {
     match lexeme {

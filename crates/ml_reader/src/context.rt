@@ -1,0 +1,206 @@
+//! What the tokens of a text tell of the next one: its clause's variables, places and length so far.
+ghost use Rattle.std.specs.Prelude.{◌≡◌, ◌-◌, ◌≤◌, ◌<◌, ◌^◌, IfOk, IsTrue, length};
+ghost use Rattle.ml_token.specs.Values.{is_name, name_of, StandsIn};
+ghost use Rattle.ml_reader.specs.Seen.{lexeme_seen};
+ghost use Rattle.ml_reader.specs.Tokens.{behind, behind_variable, lexeme, find_name, first_sign, mark_at, nothing_before, one_more, sign, variable_number};
+ghost use Rattle.ml_reader.specs.Lexemes.{end, unknown};
+ghost use Rattle.ml_reader.specs.ContextSeen.{behind_end, context_seen};
+
+use crate::lexeme::{Lexeme, Magnitude, Mark, Names};
+use crate::operators::is;
+use ml_term::Name;
+use ml_token::{Token, TokenKind, name_text, number_value};
+use std::alloc::{AllocError, Global};
+
+/// What a token finds before it.
+#[derive(Drop)]
+pub struct Context {
+    /// Where the token before ended.
+    pub to: usize,
+    /// How many tokens of its clause stand before it.
+    pub tokens: usize,
+    /// The place of the first of them.
+    pub first: usize,
+    /// The place of the last of them.
+    pub last: usize,
+    /// The names of the clause's variables so far but `_`, with their numbers.
+    pub names: Names,
+    /// How many variables the clause has so far.
+    pub variables: u32,
+}
+
+impl Context {
+    /// What the first token of a text finds before it.
+    pub fn new(alloc: Global) -> Context
+        ensures { context_seen result ≡ nothing_before }
+    {
+        Context {
+            to: 0,
+            tokens: 0,
+            first: 0,
+            last: 0,
+            names: Names::new(alloc),
+            variables: 0,
+        }
+    }
+}
+
+/// The number that stands beside a name.
+fn find(names: &Names, name: &Name) -> Option<u32>
+    ensures { result ≡ find_name names.now name.now }
+{
+    let mut rest = names.as_slice();
+    while let Some((first, others)) = rest.split_first() {
+        if first.0.as_slice() == name.as_slice() {
+            return Some(first.1);
+        }
+        rest = others;
+    }
+    None
+}
+
+/// The punctuation that a byte is.
+fn sign_of(tight: bool, b: u8) -> Lexeme
+    ensures { lexeme_seen result ≡ sign tight b }
+{
+    match b {
+        b'(' => Lexeme::Paren(tight),
+        b')' => Lexeme::Close,
+        b'[' => Lexeme::Bracket,
+        b']' => Lexeme::Unbracket,
+        b'{' => Lexeme::Brace,
+        b'}' => Lexeme::Unbrace,
+        b',' => Lexeme::Comma,
+        _ => Lexeme::Bar,
+    }
+}
+
+/// The punctuation that the first byte is.
+fn first_sign_of(tight: bool, bytes: &[u8]) -> Lexeme
+    ensures { lexeme_seen result ≡ first_sign tight bytes.now }
+{
+    match bytes {
+        [] => Lexeme::Bar,
+        [b, ..] => sign_of(tight, *b),
+    }
+}
+
+/// Behind a token that begins no variable and ends no clause.
+fn advanced(context: Context, token: &Token) -> Context
+    requires { context.tokens < 2 ^ 64 - 1 }
+    ensures { context_seen result ≡ one_more (context_seen context) token.now context.names context.variables }
+{
+    let first = if context.tokens == 0 {
+        token.from
+    } else {
+        context.first
+    };
+    Context {
+        to: token.to,
+        tokens: 1 + context.tokens,
+        first,
+        last: token.from,
+        names: context.names,
+        variables: context.variables,
+    }
+}
+
+/// The end of a clause, and what the next clause finds before it.
+fn ended(alloc: Global, context: Context, token: &Token) -> (Lexeme, Context)
+    ensures lexeme { lexeme_seen result.0 ≡ end (mark_at (context_seen context) token.now) }
+    ensures context { context_seen result.1 ≡ behind_end token.now }
+{
+    let place = if context.tokens == 0 {
+        token.from
+    } else {
+        context.first
+    };
+    let mark = Mark {
+        names: context.names,
+        place,
+    };
+    let next = Context {
+        to: token.to,
+        tokens: 0,
+        first: token.to,
+        last: token.from,
+        names: Names::new(alloc),
+        variables: 0,
+    };
+    (Lexeme::End(mark), next)
+}
+
+/// A variable by its number, and what stands behind it.
+fn variable(name: Name, context: Context, token: &Token) -> Result<(Lexeme, Context), AllocError>
+    requires tokens { context.tokens < 2 ^ 64 - 1 }
+    requires variables { context.variables < 2 ^ 32 - 1 }
+    ensures lexeme { IfOk result (λ r. lexeme_seen r.0 ≡ unknown (variable_number (context_seen context) name)) }
+    ensures context { IfOk result (λ r. context_seen r.1 ≡ behind_variable name (context_seen context) token.now) }
+{
+    let n = context.variables;
+    if is(&name, b"_") {
+        let mut next = advanced(context, token);
+        next.variables = 1 + n;
+        return Ok((Lexeme::Unknown(n), next));
+    }
+    match find(&context.names, &name) {
+        Some(known) => Ok((Lexeme::Unknown(known), advanced(context, token))),
+        None => {
+            let mut next = advanced(context, token);
+            next.names.push(name, n)?;
+            next.variables = 1 + n;
+            Ok((Lexeme::Unknown(n), next))
+        }
+    }
+}
+
+/// The name that a token spells.
+fn name_at(alloc: Global, bytes: &[u8], token: &Token) -> Result<Name, AllocError>
+    requires ordered { token.now.from ≤ token.now.to }
+    requires within { token.now.to ≤ length bytes.now }
+    requires named { IsTrue (is_name (name_of bytes.now token.now)) }
+    ensures { IfOk result (λ name. name ≡ name_of bytes.now token.now) }
+{
+    let text = name_text(alloc, bytes, token)?;
+    Name::new(alloc, text.as_slice())
+}
+
+/// A token with its value, and what the next one finds before it. The only error is want of memory.
+pub fn taken_in(
+    alloc: Global,
+    bytes: &[u8],
+    context: Context,
+    token: &Token,
+) -> Result<(Lexeme, Context), AllocError>
+    requires stands { StandsIn bytes.now context.to token.now }
+    requires tokens { context.tokens < 2 ^ 64 - 1 }
+    requires variables { context.variables < 2 ^ 32 - 1 }
+    ensures lexeme { IfOk result (λ r. lexeme_seen r.0 ≡ lexeme bytes.now (context_seen context) token.now) }
+    ensures context { IfOk result (λ r. context_seen r.1 ≡ behind bytes.now (context_seen context) token.now) }
+{
+    let tight = token.from == context.to;
+    match token.kind {
+        TokenKind::Name => {
+            let name = name_at(alloc, bytes, token)?;
+            Ok((Lexeme::Name(false, name), advanced(context, token)))
+        }
+        TokenKind::QuotedName => {
+            let name = name_at(alloc, bytes, token)?;
+            Ok((Lexeme::Name(true, name), advanced(context, token)))
+        }
+        TokenKind::Variable => variable(name_at(alloc, bytes, token)?, context, token),
+        TokenKind::Number => {
+            let value = number_value(bytes, token);
+            Ok((
+                Lexeme::Number(tight, Magnitude { value }),
+                advanced(context, token),
+            ))
+        }
+        TokenKind::Punct => {
+            let (_, rest) = bytes.split_at(token.from);
+            Ok((first_sign_of(tight, rest), advanced(context, token)))
+        }
+        TokenKind::End => Ok(ended(alloc, context, token)),
+        TokenKind::Eof => Ok((Lexeme::Bar, advanced(context, token))),
+    }
+}

@@ -124,3 +124,13 @@ last_step steps = slice_index_or steps (length steps - 1) Made
 abbrev pub unmakes : Step → List Cell → Bool
 unmakes Made cells = of_variable (cell_in cells (length cells - 1))
 unmakes (Binding v q) cells = false
+
+-- a cell at the end of another one's bindings: it isn't bound, and stands for the same
+pub record IsEndOf (cells : List Cell) (at end : ℕ) : Type 0 where
+  pub inside : end < length cells
+  pub unbound : IsEnd (cell_in cells end)
+  pub same : (ts : List Tree) → FitAll ts cells → tree_in ts end ≡ tree_in ts at
+
+-- a cell leads to one that isn't known to be ground
+abbrev pub IsOfUnknown : List Cell → ℕ → Type 0
+IsOfUnknown cells at = (end : ℕ) × IsEndOf cells at end × (known_ground (cell_in cells end) ≡ false)

@@ -242,6 +242,9 @@ mod tests {
         heap.undo_to(mark);
         assert!(rt; matches!(heap.look(var), Look::Var(_)));
         assert!(rt; !heap.is_older(var, var));
+        let younger = heap.new_var()?;
+        assert!(rt; heap.is_older(var, younger));
+        assert!(rt; !heap.is_older(younger, var));
         Ok(())
     }
 

@@ -1,8 +1,8 @@
 //! What is read of cells and done to one of them.
-ghost use Rattle.std.specs.Prelude.{◌≡◌, ◌<◌, ℕ, List, length, IsTrue, true, slice_index, slice_set, IfOk, take, ◌-◌};
+ghost use Rattle.std.specs.Prelude.{◌≡◌, ◌<◌, ℕ, List, length, IsTrue, true, false, slice_index, slice_set, IfOk, take, ◌-◌};
 ghost use Rattle.ml_term.specs.Tree.{Tree, is_ground};
 ghost use Rattle.ml_heap.specs.Changes.{tree_in};
-ghost use Rattle.ml_heap.specs.Layout.{cell_in, IsEnd, AreLinked, FitAll, known_ground, of_variable, freed, before, last_step, unmakes, IsStepOf};
+ghost use Rattle.ml_heap.specs.Layout.{cell_in, IsEnd, AreLinked, FitAll, known_ground, IsOfUnknown, of_variable, freed, before, last_step, unmakes, IsStepOf};
 
 use crate::cell::{Cell, Step};
 use crate::place::Ref;
@@ -38,7 +38,8 @@ fn is_known_ground(cell: &Cell) -> bool
 pub fn is_ground_at(cells: &[Cell], at: Ref) -> bool
     requires inside { at < length cells.now }
     requires linked { AreLinked cells.now }
-    ensures { IsTrue result → (ts : List Tree) → FitAll ts cells.now → is_ground (tree_in ts at) ≡ true }
+    ensures ground { IsTrue result → (ts : List Tree) → FitAll ts cells.now → is_ground (tree_in ts at) ≡ true }
+    ensures unknown { result ≡ false → IsOfUnknown cells.now at }
 {
     let end = end_of(cells, at.place());
     is_known_ground(&cells[end])
@@ -48,7 +49,8 @@ pub fn is_ground_at(cells: &[Cell], at: Ref) -> bool
 pub fn are_ground(cells: &[Cell], args: &[Ref]) -> bool
     requires inside { (i : ℕ) → i < length args.now → slice_index args.now i < length cells.now }
     requires linked { AreLinked cells.now }
-    ensures { IsTrue result → (ts : List Tree) → FitAll ts cells.now → (i : ℕ) → i < length args.now → is_ground (tree_in ts (slice_index args.now i)) ≡ true }
+    ensures ground { IsTrue result → (ts : List Tree) → FitAll ts cells.now → (i : ℕ) → i < length args.now → is_ground (tree_in ts (slice_index args.now i)) ≡ true }
+    ensures unknown { result ≡ false → (i : ℕ) × (i < length args.now) × IsOfUnknown cells.now (slice_index args.now i) }
 {
     for arg in args {
         if !is_ground_at(cells, *arg) {

@@ -26,7 +26,7 @@ invariant_of-self-2 c =
     c.in_ok-push.ensures.made ∙ ap (λ qs. cells ++ Cmp c.in_ok-name.name qs c.are_ground-ground.result ∷ []) (c.new.ensures ∙ c.in_ok-places.ensures) in
     let within : (i : ℕ) → i < length qs → get_or qs i 0 < length cells = λ i l. is_inside _ _ _ c.self.invariant _ c.self.view_is cells (get_or qs i 0) refl (c.requires.inside i l) in
     let ground : c.are_ground-ground.result ≡ true → is_ground (compound c.in_ok-name.name (trees_of (map (tree_in ts) qs))) ≡ true =
-    λ b. ground_compound c.in_ok-name.name ts qs (c.are_ground-ground.ensures b ts (fit_seen steps cells c.self.inside.created c.self.invariant (changes_of steps cells) refl _ c.deref.ensures.value)) in
+    λ b. ground_compound c.in_ok-name.name ts qs (c.are_ground-ground.ensures.ground b ts (fit_seen steps cells c.self.inside.created c.self.invariant (changes_of steps cells) refl _ c.deref.ensures.value)) in
     kept_as (steps ++ Made ∷ []) _ (cells ++ Cmp c.in_ok-name.name qs c.are_ground-ground.result ∷ []) _ c.self.inside.created _ c.in_ok-push.ensures.step made refl
     (compound_kept steps cells c.self.inside.created c.self.invariant c.in_ok-name.name qs c.are_ground-ground.result within ground)
 
@@ -40,7 +40,7 @@ returns-clause-made c =
     c.in_ok-push.ensures.made ∙ ap (λ qs. cells ++ Cmp c.in_ok-name.name qs c.are_ground-ground.result ∷ []) (c.new.ensures ∙ c.in_ok-places.ensures) in
     let within : (i : ℕ) → i < length qs → get_or qs i 0 < length cells = λ i l. is_inside _ _ _ c.self.invariant _ c.self.view_is cells (get_or qs i 0) refl (c.requires.inside i l) in
     let ground : c.are_ground-ground.result ≡ true → is_ground (compound c.in_ok-name.name (trees_of (map (tree_in ts) qs))) ≡ true =
-    λ b. ground_compound c.in_ok-name.name ts qs (c.are_ground-ground.ensures b ts (fit_seen steps cells c.self.inside.created c.self.invariant (changes_of steps cells) refl _ c.deref.ensures.value)) in
+    λ b. ground_compound c.in_ok-name.name ts qs (c.are_ground-ground.ensures.ground b ts (fit_seen steps cells c.self.inside.created c.self.invariant (changes_of steps cells) refl _ c.deref.ensures.value)) in
     let place : c.at-at.result ≡ length cells = omega (arith, c.at-at.ensures, c.len.ensures) in
     let P : Changes → Type 0 = λ h. HasOneMore h (changes_of c.push.new.steps.items c.push.new.cells.items) c.at-at.result (compound c.args.name.now (trees_of (map (stands_for h) qs))) in
     subst P c.self.view_is

@@ -15,3 +15,6 @@ mod Reserved
 mod Placing
 mod Refusals
 mod Histories
+mod Values
+mod SameTerms
+mod Meeting

@@ -7,4 +7,5 @@ pub mod Causes
 pub mod Answers
 pub mod Inputs
 pub mod Numbers
+pub mod Matching
 pub mod Prints

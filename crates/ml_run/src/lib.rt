@@ -6,9 +6,11 @@ mod form;
 mod limits;
 mod line;
 mod load;
+mod matching;
 mod relation;
 mod run;
 mod status;
+mod tuple;
 mod words;
 
 pub use line::line_of;

@@ -18,3 +18,6 @@ mod Histories
 mod Values
 mod SameTerms
 mod Meeting
+mod Members
+mod Rising
+mod Sorting

@@ -8,4 +8,5 @@ pub mod Answers
 pub mod Inputs
 pub mod Numbers
 pub mod Matching
+pub mod KeyOrder
 pub mod Prints

@@ -3,6 +3,7 @@
 
 mod block;
 mod form;
+mod key_order;
 mod limits;
 mod line;
 mod load;

@@ -21,3 +21,7 @@ mod Meeting
 mod Members
 mod Rising
 mod Sorting
+mod Calling
+mod Finding
+mod Bindings
+mod PlainAnswers

@@ -13,7 +13,8 @@ use Rattle.ml_term.proofs.Columns.{and_first, and_second}
 use Rattle.ml_term.proofs.OneUnifier.{some_or_none, unifier_found}
 use Rattle.ml_term.proofs.Ground.{ground_stays, gives_the_tuple, gives_one}
 use Rattle.ml_search.specs.Db.{is_same}
-use Rattle.ml_run.specs.Matching.{Values, value_at, with_value, is_below, are_below, taken_by, taken, matched, all_matched, AreUnset, Meets}
+use Rattle.ml_run.specs.Below.{is_below, are_below}
+use Rattle.ml_run.specs.Matching.{Values, value_at, with_value, taken_by, taken, matched, all_matched, AreUnset, Meets}
 use Rattle.ml_run.proofs.SameTerms.{same_is_equal, same_as_itself}
 
 -- a substitution gives each variable the value that it has

@@ -6,6 +6,7 @@ use Rattle.ml_term.specs.Tree.{Tree}
 use Rattle.ml_term.specs.declared.term.Term.{Term}
 use Rattle.ml_search.specs.Db.{is_same}
 use Rattle.ml_run.specs.Matching.{Values, value_at, with_value, taken_by, values_seen, AreUnset, Tells}
+use Rattle.ml_run.specs.Plain.{IsPlainSome}
 
 abbrev value_seen : Option (Bor Term) → Option Tree
 value_seen = option_map (λ v. seen v.now)
@@ -61,3 +62,9 @@ unset_all vs k h below n = elim (below_or_not n k) [ inl l ↦ below n l | inr l
         by_test : (b : Bool) → nat_lt n k ≡ b → (n < k) ⊎ (k ≤ n)
         by_test true e = inl (grind (arith, nat_tests))
         by_test false e = inr (grind (arith, nat_tests))
+
+-- where a value is told, there is a place for it
+pub in_place : (vs : List (Option (Bor Term))) (n : ℕ) → IsPlainSome (value_at (values_seen vs) n) → n < length vs
+in_place [] n h = absurd h
+in_place (v ∷ vs) zero h = omega arith
+in_place (v ∷ vs) (suc n) h = omega (arith, in_place vs n h)

@@ -30,18 +30,6 @@ with_value [] n u = []
 with_value (v ∷ vs) zero u = Some u ∷ vs
 with_value (v ∷ vs) (suc n) u = v ∷ with_value vs n u
 
-abbrev mutual
-  -- whether the variables of a term have numbers below k
-  pub is_below : ℕ → Tree → Bool
-  is_below k (variable n) = nat_lt n k
-  is_below k (integer z) = true
-  is_below k (atom f) = true
-  is_below k (compound f ts) = are_below k ts
-
-  pub are_below : ℕ → Trees → Bool
-  are_below k no_trees = true
-  are_below k (tree t ts) = is_below k t && are_below k ts
-
 -- a variable with this value takes a term that is the same, and one without takes any
 abbrev pub taken_by : Option Tree → ℕ → Tree → Values → Option Values
 taken_by None n u vs = Some (with_value vs n u)

@@ -1,15 +1,19 @@
 //! Runs sessions over what a shelf holds, and prints what they did.
 #![tactic(auto)]
 
+mod answer;
 mod block;
 mod form;
+mod goal;
 mod key_order;
 mod limits;
 mod line;
 mod load;
 mod matching;
+mod probe;
 mod relation;
 mod run;
+mod session;
 mod status;
 mod tuple;
 mod words;

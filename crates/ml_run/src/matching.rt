@@ -4,7 +4,8 @@ ghost use Rattle.ml_term.specs.Seen.{seen, all_seen};
 ghost use Rattle.ml_term.specs.Tree.{trees_of};
 ghost use Rattle.ml_search.specs.Db.{is_same};
 ghost use Rattle.ml_term.specs.Unify.{unifier};
-ghost use Rattle.ml_run.specs.Matching.{is_below, are_below, taken, matched, all_matched, values_seen, AreUnset, Meets, Tells};
+ghost use Rattle.ml_run.specs.Below.{is_below, are_below};
+ghost use Rattle.ml_run.specs.Matching.{taken, matched, all_matched, values_seen, AreUnset, Meets, Tells};
 
 use crate::tuple::Tuple;
 use ml_term::{Term, compare};

@@ -1,7 +1,8 @@
 use Rattle.std.proofs.Common.{◌≡◌, true, length, sym, ◌∙◌, subst}
 use Rattle.std.proofs.lemmas.List.{length-map}
 use Rattle.ml_term.specs.Seen.{seen}
-use Rattle.ml_run.specs.Matching.{is_below, values_seen}
+use Rattle.ml_run.specs.Below.{is_below}
+use Rattle.ml_run.specs.Matching.{values_seen}
 use Rattle.ml_run.proofs.Values.{told_yes, told_no}
 use Rattle.ml_run.proofs.Meeting.{meets, misses}
 use Rattle.ml_run.proofs.matching.meets.Goals as goal

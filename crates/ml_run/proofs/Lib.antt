@@ -3,16 +3,9 @@ mod Lexed
 mod Facts
 mod Outcomes
 mod Ends
-mod Unifying
 mod Searching
-mod Knowing
-mod Asking
-mod Writing
-mod Printing
-mod Ordering
 mod Loading
 mod Reserved
-mod Placing
 mod Refusals
 mod Histories
 mod Values
@@ -25,3 +18,8 @@ mod Calling
 mod Finding
 mod Bindings
 mod PlainAnswers
+mod Blocks
+mod Tokens
+mod Spelling
+mod Shapes
+mod Lengths

@@ -71,7 +71,7 @@ known_plain vs m [] k = All-nil (λ e. IsPlainSome (value_at vs e.1))
 known_plain vs m (e ∷ es) k = All-cons (λ e. IsPlainSome (value_at vs e.1)) e es (plain_some (value_at vs e.1) (value_of m e.1) k.0.0 k.0.1) (known_plain vs m es k.1)
 
 -- the text of a plain term is its canonical text
-plain_is_text : (t : Tree) (met : List ℕ) → is_plain t ≡ true → text_of t met ≡ plain_text t
+pub plain_is_text : (t : Tree) (met : List ℕ) → is_plain t ≡ true → text_of t met ≡ plain_text t
 plain_is_text (variable n) met p = cc
 plain_is_text (integer z) met p = refl
 plain_is_text (atom f) met p = rw p refl

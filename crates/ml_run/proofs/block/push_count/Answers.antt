@@ -3,7 +3,7 @@ use Rattle.std.proofs.lemmas.Result.{on_ok_weaker}
 use Rattle.ml_term.specs.Decimal.{decimal_text}
 use Rattle.ml_term.proofs.Decimals.{decimal_is_text}
 use Rattle.ml_run.proofs.PlainAnswers.{regrouped}
-use Rattle.ml_run.proofs.session.push_count.Goals as goal
+use Rattle.ml_run.proofs.block.push_count.Goals as goal
 
 pub returns : goal.returns
 returns c =

@@ -6,7 +6,7 @@ use Rattle.ml_run.specs.Answering.{answers}
 use Rattle.ml_run.specs.GoalSeen.{goal_seen}
 use Rattle.ml_run.specs.KeyOrder.{trees}
 use Rattle.ml_run.proofs.PlainAnswers.{lines_behind, count_behind, trees_more}
-use Rattle.ml_run.proofs.session.push_answers.Goals as goal
+use Rattle.ml_run.proofs.block.push_answers.Goals as goal
 
 pub loop-tuple-preserved : goal.loop-tuple-preserved
 loop-tuple-preserved c =

@@ -8,7 +8,7 @@ use Rattle.ml_run.specs.GoalSeen.{goal_seen}
 use Rattle.ml_run.specs.Matching.{values_seen, value_at}
 use Rattle.ml_run.specs.Plain.{IsPlainSome, plain_line}
 use Rattle.ml_run.proofs.PlainAnswers.{all_known, known_plain, line_is, answers_one}
-use Rattle.ml_run.proofs.session.push_if_met.Goals as goal
+use Rattle.ml_run.proofs.block.push_if_met.Goals as goal
 
 pub push_answer-requires : goal.push_answer-requires
 push_answer-requires c =

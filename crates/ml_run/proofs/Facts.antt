@@ -113,7 +113,7 @@ length-fact name n [] some h = absurd (let many = h.as_many in omega arith)
 length-fact name n (a ∷ given) some h = let many = h.as_many in omega (arith, length-append (call name (a ∷ given)) (sign End ∷ []), length-arguments a given)
 
 -- the shape of the tuple that a fact is
-arity_of_terms : (s : Numbering) (given : List Argument) → arity (trees_of (terms_from s given)) ≡ length given
+pub arity_of_terms : (s : Numbering) (given : List Argument) → arity (trees_of (terms_from s given)) ≡ length given
 arity_of_terms s [] = refl
 arity_of_terms s (a ∷ given) = omega (arith, arity_of_terms (behind s a) given)
 

@@ -1,5 +1,5 @@
 -- The block of the session over what two files hold is its printed history.
-use Rattle.std.proofs.Common.{◌≡◌, ◌∷◌, [], refl, sym, ap, ◌∙◌, subst, ◌+◌, ◌*◌, ◌≤◌, ◌&&◌, not, Bool, true, false, ℕ, List, Option, length, map, arith}
+use Rattle.std.proofs.Common.{◌≡◌, ◌∷◌, [], refl, sym, ap, ◌∙◌, subst, ◌+◌, ◌*◌, ◌≤◌, ◌&&◌, not, Bool, true, false, IsTrue, ℕ, List, Option, Some, length, map, inl, inr, arith}
 use Rattle.std.specs.List.{list_all}
 use Rattle.std.proofs.Math.Seq.{take-length}
 use Rattle.std.proofs.lemmas.List.{length-map}
@@ -7,23 +7,25 @@ use Rattle.ml_term.specs.Tree.{Tree, compound, trees_of, arity, nodes}
 use Rattle.ml_term.specs.declared.declaration.Decl.{Decl}
 use Rattle.ml_term.proofs.Columns.{and_first, and_second}
 use Rattle.ml_search.specs.Program.{Goal}
-use Rattle.ml_search.specs.Known.{is_reserved}
+use Rattle.ml_search.specs.Known.{is_reserved, declared_known}
+use Rattle.ml_search.specs.Table.{declared, as_tuple}
 use Rattle.ml_search.specs.Loading.{in_key_order}
 use Rattle.ml_search.specs.History.{history}
 use Rattle.ml_search.specs.Printed.{printed}
 use Rattle.ml_outside.specs.Held.{Files}
 use Rattle.ml_outside.specs.Written.{Appended, AppendedFront}
 use Rattle.ml_run.specs.Plain.{is_flat_call}
+use Rattle.ml_run.specs.form.Tokens.{Lexeme}
 use Rattle.ml_run.specs.form.Arguments.{Argument, is_among, operators, is_within}
 use Rattle.ml_run.specs.form.Terms.{unnumbered, terms_from, call_term, goal_of}
-use Rattle.ml_run.specs.form.Grammar.{is_free, AreRules, IsGoal}
+use Rattle.ml_run.specs.form.Grammar.{is_arity, AreRules, IsGoal}
 use Rattle.ml_run.specs.Texts.{HoldsRules, HoldsScript}
 use Rattle.ml_run.specs.Inputs.{program_of, lists_of, script_of}
 use Rattle.ml_run.specs.Answering.{answers, block_text}
 use Rattle.ml_run.specs.Prints.{Printed}
 use Rattle.ml_run.proofs.Members.{Has}
 use Rattle.ml_run.proofs.Rising.{all_has}
-use Rattle.ml_run.proofs.Tokens.{some_arity}
+use Rattle.ml_run.proofs.Tokens.{some_arity, two_at_most}
 use Rattle.ml_run.proofs.Facts.{arity_of_terms}
 use Rattle.ml_run.proofs.Shapes.{IsFactTerm, fact_terms, names_named, few_names, call_nodes}
 use Rattle.ml_run.proofs.Lengths.{AreNamed, lines_short, fewer_answers}
@@ -38,9 +40,6 @@ not_so false e = refl
 
 -- what rules and a goal of their relation print
 module _ (tokens others : List Lexeme) (d : Decl) (facts : List Tree) (g : Goal) (r : AreRules tokens d facts) (s : IsGoal others d.pred.name d.pred.arity g) where
-  tuples : List Tree
-  tuples = in_key_order d.keys facts
-
   is_fact : (t : Tree) → Has t facts → IsFactTerm t
   is_fact t h = fact_terms d.pred.name d.pred.arity r.facts_are.given r.facts_are.spelled.each t (subst (Has t) r.facts_are.terms h)
 
@@ -98,4 +97,19 @@ session_printed files rules script d facts g block happened e h r s = record {
   script_read = s;
   out_of_memory = false;
   happened_to = subst happened (e ∙ sym (prints r.2.0 s.2.0 d facts g r.2.2 s.2.2)) h;
+}
+
+-- the whole is a front of itself
+pub whole_front : (before after : Option (List ℕ)) (bytes : List ℕ) → Appended before after bytes → AppendedFront before after bytes
+whole_front before after bytes h = (length bytes, omega arith, subst (Appended before after) (sym (take-length bytes)) h)
+
+pub printed_front : (files : Files) (rules script : List ℕ) (before after : Option (List ℕ)) → Printed files rules script (Appended before after) → Printed files rules script (AppendedFront before after)
+printed_front files rules script before after p = record {
+  decl = p.decl;
+  facts = p.facts;
+  rules_read = p.rules_read;
+  goal = p.goal;
+  script_read = p.script_read;
+  out_of_memory = p.out_of_memory;
+  happened_to = whole_front before after _ p.happened_to;
 }

@@ -119,6 +119,9 @@ other_arity n h d = elim (eqb_tells n 1) [ inl q ↦ absurd (d q.1) | inr q ↦ 
 pub some_arity : (n : ℕ) → IsTrue (is_arity n) → 1 ≤ n
 some_arity n h = elim (eqb_tells n 1) [ inl q ↦ omega arith | inr q ↦ let two : n ≡ 2 = other_arity n h q.1 in omega arith ]
 
+pub two_at_most : (n : ℕ) → IsTrue (is_arity n) → n ≤ 2
+two_at_most n h = elim (eqb_tells n 1) [ inl q ↦ omega (arith, q.1) | inr q ↦ let two : n ≡ 2 = other_arity n h q.1 in omega arith ]
+
 pub same_fact : (name : List ℕ) (a b : List Argument) (xs ys : List Lexeme) → fact name a ++ xs ≡ fact name b ++ ys → (a ≡ b) × (xs ≡ ys)
 same_fact name a b xs ys e =
     let same = same_call name a b (sign End ∷ xs) (sign End ∷ ys) (sym (append_assoc (call name a) (sign End ∷ []) xs) ∙ e ∙ append_assoc (call name b) (sign End ∷ []) ys) in

@@ -10,7 +10,6 @@ mod limits;
 mod line;
 mod load;
 mod matching;
-mod probe;
 mod run;
 mod status;
 mod tuple;

@@ -37,11 +37,13 @@ an_integer (negsuc n) ys = a_negative plain
 a_name : {c : Bool} (f : List ℕ) (ys : List Lexeme) → ClosesFirst ys → Derives true c (name_tokens f ys) ys 0 (atom f)
 a_name f ys h = an_atom (a_word f ys).1 (atom_before f ys h)
 
-valid_arguments : (f : List ℕ) (ts : Trees) → is_valid (compound f ts) ≡ true → (1 ≤ arity ts) × (are_valid ts ≡ true)
-valid_arguments f ts v =
+-- the name and the arguments of a valid compound
+pub valid_compound : (f : List ℕ) (ts : Trees) → is_valid (compound f ts) ≡ true → (is_name f ≡ true) × (1 ≤ arity ts) × (are_valid ts ≡ true)
+valid_compound f ts v =
     let l = both (is_name f && nat_le 1 (arity ts) && nat_le (arity ts) 255) (are_valid ts) v in
     let m = both (is_name f && nat_le 1 (arity ts)) (nat_le (arity ts) 255) l.0 in
-    (le_holds 1 (arity ts) (both (is_name f) (nat_le 1 (arity ts)) m.0).1, l.1)
+    let n = both (is_name f) (nat_le 1 (arity ts)) m.0 in
+    (n.0, le_holds 1 (arity ts) n.1, l.1)
 
 module _ (place : ℕ → ℕ) where
   abbrev numbered : Tree → Tree
@@ -72,8 +74,8 @@ module _ (place : ℕ → ℕ) where
     derived (atom f) ys v h = a_name f ys h
     derived {c} (compound f ts) ys v h =
         cond_cases (λ xs. Derives true c xs ys 0 (compound f (all_numbered ts))) (is_cell f ts) _ _
-        (λ e. a_list_cell f ts (all_numbered ts) ys e (cell_derived ts ys (cell_tells f ts e).1 (valid_arguments f ts v).1))
-        (λ e. a_compound (a_word f (paren true ∷ argument_tokens place ts (close ∷ ys))).1 (arguments_derived ts ys (valid_arguments f ts v).0 (valid_arguments f ts v).1))
+        (λ e. a_list_cell f ts (all_numbered ts) ys e (cell_derived ts ys (cell_tells f ts e).1 (valid_compound f ts v).2))
+        (λ e. a_compound (a_word f (paren true ∷ argument_tokens place ts (close ∷ ys))).1 (arguments_derived ts ys (valid_compound f ts v).1 (valid_compound f ts v).2))
 
     arguments_derived : (ts : Trees) (ys : List Lexeme) → 1 ≤ arity ts → are_valid ts ≡ true → Arguments true (argument_tokens place ts (close ∷ ys)) ys (all_numbered ts)
     arguments_derived no_trees ys l v = absurd (omega arith)
@@ -109,6 +111,6 @@ module _ (place : ℕ → ℕ) where
     rest_derived {xs} {u} (compound f ts) ys d v =
         cond_cases (λ zs. Derives true false xs zs 0 u → Elements true xs ys (cell u (compound f (all_numbered ts)))) (is_cell f ts) _ _
         (λ e d. subst (λ g. Elements true xs ys (cell u (compound g (all_numbered ts)))) (sym (cell_tells f ts e).0)
-        (element d refl (cell_derived ts ys (cell_tells f ts e).1 (valid_arguments f ts v).1)))
+        (element d refl (cell_derived ts ys (cell_tells f ts e).1 (valid_compound f ts v).2)))
         (λ e d. before_bar d refl (a_compound (a_word f (paren true ∷ argument_tokens place ts (close ∷ unbracket ∷ ys))).1
-        (arguments_derived ts (unbracket ∷ ys) (valid_arguments f ts v).0 (valid_arguments f ts v).1)) refl) d
+        (arguments_derived ts (unbracket ∷ ys) (valid_compound f ts v).1 (valid_compound f ts v).2)) refl) d

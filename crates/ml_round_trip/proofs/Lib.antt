@@ -1,2 +1,12 @@
 pub mod Tests
 pub mod Derived
+pub mod TextBefore
+pub mod Digits
+pub mod VariableNames
+pub mod Standing
+pub mod NamedTokens
+pub mod BareNames
+pub mod QuotedNames
+pub mod Pieces
+pub mod InOrder
+pub mod Cut

@@ -1,1 +1,2 @@
 pub mod CanonicalTokens
+pub mod ReadBack

@@ -10,3 +10,5 @@ pub mod QuotedNames
 pub mod Pieces
 pub mod InOrder
 pub mod Cut
+pub mod FirstPlaces
+pub mod ReadAgain

@@ -1,0 +1,98 @@
+-- The canonical text of a term, followed by a space and a full stop, is a text of one clause: the term with its variables numbered anew.
+use Rattle.std.specs.Prelude.{◌≡◌, ℕ, suc, ◌+◌, ◌^◌, ◌<◌, ◌≤◌, Bool, true, false, ◌&&◌, ℤ, pos, negsuc, List, [], ◌∷◌, ◌++◌, length, drop, codes, cond}
+use Rattle.std.specs.List.{flat_map}
+use Rattle.std.proofs.Common.{refl, sym, ap, ◌∙◌, arith, subst, length-append}
+use Rattle.std.proofs.lemmas.Bool.{ltb-true}
+use Rattle.ml_term.specs.Tree.{Tree, Trees, variable, integer, atom, compound, no_trees, tree, nodes, nodes_of, variables, variables_of, firsts, place_in, width, substituted, renamed}
+use Rattle.ml_term.specs.Valid.{is_valid}
+use Rattle.ml_term.specs.CanonicalBytes.{integer_offset}
+use Rattle.ml_term.specs.Decimal.{decimal_text, integer_text}
+use Rattle.ml_term.specs.Text.{joined, texts, cell_text, is_cell, is_bare, quoted_byte, atom_text, text, number_in, text_of}
+use Rattle.ml_term.proofs.Substitution.{alike}
+use Rattle.ml_reader.specs.Lexemes.{Mark, Written, written, Lexeme, end}
+use Rattle.ml_reader.specs.Tokens.{nothing_before, Ends}
+use Rattle.ml_reader.specs.Grammar.{Derives, IsText, no_clause, a_clause}
+use Rattle.ml_reader.specs.Reading.{Reads}
+use Rattle.ml_round_trip.specs.CanonicalTokens.{tokens, tokens_of}
+use Rattle.ml_round_trip.specs.ReadBack.{variable_names, read_back}
+use Rattle.ml_round_trip.proofs.Tests.{cond_cases}
+use Rattle.ml_round_trip.proofs.Digits.{decimal_is}
+use Rattle.ml_round_trip.proofs.Derived.{derived}
+use Rattle.ml_round_trip.proofs.TextBefore.{text_before, text_is, arguments_before, cell_before}
+use Rattle.ml_round_trip.proofs.Standing.{EndsAs}
+use Rattle.ml_round_trip.proofs.NamedTokens.{the_last}
+use Rattle.ml_round_trip.proofs.InOrder.{counted, AreFit, counted_few}
+use Rattle.ml_round_trip.proofs.FirstPlaces.{counted_all}
+use Rattle.ml_round_trip.proofs.Cut.{tree_ends}
+
+mutual
+  few_variables : (t : Tree) → length (variables t) ≤ nodes t
+  few_variables (variable n) = omega arith
+  few_variables (integer z) = omega arith
+  few_variables (atom f) = omega arith
+  few_variables (compound f ts) = omega (arith, all_few_variables ts)
+
+  all_few_variables : (ts : Trees) → length (variables_of ts) ≤ nodes_of ts
+  all_few_variables no_trees = omega arith
+  all_few_variables (tree t ts) = omega (arith, few_variables t, all_few_variables ts, length-append (variables t) (variables_of ts))
+
+-- a space and a full stop
+abbrev pub stop : List ℕ
+stop = codes " ."
+
+some_name : (f : List ℕ) → 1 ≤ length (atom_text f)
+some_name f = cond_cases (λ xs. 1 ≤ length xs) (is_bare f) f (39 ∷ flat_map quoted_byte f ++ 39 ∷ []) (bare f) (λ e. omega arith)
+  where
+    bare : (f : List ℕ) → is_bare f ≡ true → 1 ≤ length f
+    bare [] e = absurd (cc)
+    bare (b ∷ f) e = omega arith
+
+some_behind : (xs ys : List ℕ) (y : ℕ) → 1 ≤ length (xs ++ y ∷ ys)
+some_behind xs ys y = omega (arith, length-append xs (y ∷ ys))
+
+-- no text is empty
+some_text : (number : ℕ → ℕ) (t : Tree) → is_valid t ≡ true → 1 ≤ length (text number t)
+some_text number (variable n) v = omega arith
+some_text number (integer (pos n)) v = let small : n < integer_offset = ltb-true n integer_offset v in (decimal_is n (omega arith)).some
+some_text number (integer (negsuc n)) v = omega arith
+some_text number (atom f) v = some_name f
+some_text number (compound f ts) v =
+    cond_cases (λ xs. 1 ≤ length xs) (is_cell f ts) (91 ∷ cell_text number ts ++ 93 ∷ []) (atom_text f ++ 40 ∷ joined (texts number ts) ++ 41 ∷ [])
+    (λ e. omega arith) (λ e. some_behind (atom_text f ++ 40 ∷ joined (texts number ts)) [] 41)
+
+-- what the tokens tell of the clause at its end
+abbrev pub mark_of : Tree → Mark
+mark_of t = record { names = variable_names (width t); place = 0 }
+
+module _ (t : Tree) (valid : is_valid t ≡ true) (small : nodes t ≤ 4096) where
+  abbrev place : ℕ → ℕ
+  place n = place_in (firsts (variables t)) n
+
+  bytes : List ℕ
+  bytes = text_of t [] ++ stop
+
+  fit : AreFit place 0 (variables t)
+  fit = record { order = (counted_all (variables t)).order; few = omega (arith, counted_few place 0 (variables t), few_variables t) }
+
+  long : 2 < length (text_of t [] ++ stop)
+  long = omega (arith, length-append (text_of t []) stop, some_text (number_in (firsts (variables t))) t valid)
+
+  ends_last : EndsAs (text_of t [] ++ stop) (counted place 0 (variables t)) stop (end (mark_of t) ∷ [])
+  ends_last = subst (λ n. EndsAs (text_of t [] ++ stop) n stop (end (mark_of t) ∷ [])) (sym (counted_all (variables t)).all) (the_last (text_of t [] ++ stop) (width t) long)
+
+  pub cut_whole : Ends (text_of t [] ++ stop) nothing_before (tokens_of t (end (mark_of t) ∷ []))
+  cut_whole =
+      tree_ends (text_of t [] ++ stop) place t 0 stop (end (mark_of t) ∷ []) valid fit refl ends_last nothing_before
+      (record { names = refl; variables = refl; first = refl; begun = λ e. refl }) (text_is (number_in (firsts (variables t))) t stop)
+
+  pub derived_whole : IsText true (tokens_of t (end (mark_of t) ∷ [])) (read_back t ∷ [])
+  derived_whole = subst (λ c. IsText true (tokens_of t (end (mark_of t) ∷ [])) (c ∷ [])) same (a_clause (derived place t (end (mark_of t) ∷ []) valid refl) refl no_clause)
+    where
+      from_zero : (n : ℕ) → place n ≡ 0 + place_in (firsts (variables t)) n
+      from_zero n = omega arith
+
+      same : written (mark_of t) (substituted (λ n. variable (place n)) t) ≡ read_back t
+      same = ap (λ u. written (mark_of t) u) (alike _ _ t (λ n i. ap variable (from_zero n)))
+
+  pub read_again : Reads (text_of t [] ++ stop) (read_back t ∷ [])
+  read_again = record { tokens = tokens_of t (end (mark_of t) ∷ []); whole = cut_whole; text = derived_whole }

@@ -13,7 +13,7 @@ use Rattle.ml_reader.specs.Lexemes.{Lexeme, unknown, paren, close, bracket, unbr
 use Rattle.ml_round_trip.specs.CanonicalTokens.{name_tokens, tokens, argument_tokens, more_tokens, cell_tokens, rest_tokens}
 use Rattle.ml_round_trip.specs.ReadBack.{variable_name}
 use Rattle.ml_round_trip.proofs.Tests.{cond_cases, both, cell_tells, not_two}
-use Rattle.ml_round_trip.proofs.Derived.{valid_compound}
+use Rattle.ml_round_trip.proofs.Shown.{valid_compound}
 use Rattle.ml_round_trip.proofs.TextBefore.{text_before, arguments_before, more_before, cell_before, rest_before}
 use Rattle.ml_round_trip.proofs.Standing.{EndsAs}
 use Rattle.ml_round_trip.proofs.NamedTokens.{punctuation}

@@ -1,4 +1,5 @@
 pub mod Tests
+pub mod Shown
 pub mod Derived
 pub mod TextBefore
 pub mod Digits
@@ -12,3 +13,6 @@ pub mod InOrder
 pub mod Cut
 pub mod FirstPlaces
 pub mod ReadAgain
+pub mod FewTokens
+pub mod StaysValid
+pub mod OneDepth

@@ -1,29 +1,41 @@
 -- The canonical text of a term, followed by a space and a full stop, is a text of one clause: the term with its variables numbered anew.
-use Rattle.std.specs.Prelude.{◌≡◌, ℕ, suc, ◌+◌, ◌^◌, ◌<◌, ◌≤◌, Bool, true, false, ◌&&◌, ℤ, pos, negsuc, List, [], ◌∷◌, ◌++◌, length, drop, codes, cond}
+use Rattle.std.specs.Prelude.{◌≡◌, ℕ, suc, ◌+◌, ◌^◌, ◌<◌, ◌≤◌, Bool, true, false, ◌&&◌, nat_le, ℤ, pos, negsuc, List, [], ◌∷◌, ◌++◌, length, drop, codes, cond}
 use Rattle.std.specs.List.{flat_map}
 use Rattle.std.proofs.Common.{refl, sym, ap, ◌∙◌, arith, subst, length-append}
-use Rattle.std.proofs.lemmas.Bool.{ltb-true}
+use Rattle.std.proofs.lemmas.Bool.{ltb-true, le-leb}
 use Rattle.ml_term.specs.Tree.{Tree, Trees, variable, integer, atom, compound, no_trees, tree, nodes, nodes_of, variables, variables_of, firsts, place_in, width, substituted, renamed}
 use Rattle.ml_term.specs.Valid.{is_valid}
 use Rattle.ml_term.specs.CanonicalBytes.{integer_offset}
 use Rattle.ml_term.specs.Decimal.{decimal_text, integer_text}
 use Rattle.ml_term.specs.Text.{joined, texts, cell_text, is_cell, is_bare, quoted_byte, atom_text, text, number_in, text_of}
+use Rattle.ml_term.proofs.Distinct.{In}
 use Rattle.ml_term.proofs.Substitution.{alike}
+use Rattle.ml_term.proofs.Renaming.{in_firsts, place_below}
+use Rattle.ml_term.proofs.Numbering.{renamed_nodes}
 use Rattle.ml_reader.specs.Lexemes.{Mark, Written, written, Lexeme, end}
 use Rattle.ml_reader.specs.Tokens.{nothing_before, Ends}
 use Rattle.ml_reader.specs.Grammar.{Derives, IsText, no_clause, a_clause}
 use Rattle.ml_reader.specs.Reading.{Reads}
+use Rattle.ml_reader.proofs.ReadingLaws.{only_tokens, only_reading}
+use Rattle.ml_reader.specs.declared.limits.TheConstants.{MOST_LEVELS, MOST_NODES}
+use Rattle.ml_reader.specs.Levels.{deepest_in}
+use Rattle.ml_reader.specs.Texts.{IsRead}
+use Rattle.ml_round_trip.specs.TextLevels.{text_levels}
 use Rattle.ml_round_trip.specs.CanonicalTokens.{tokens, tokens_of}
 use Rattle.ml_round_trip.specs.ReadBack.{variable_names, read_back}
-use Rattle.ml_round_trip.proofs.Tests.{cond_cases}
+use Rattle.ml_round_trip.proofs.Tests.{cond_cases, both_hold}
 use Rattle.ml_round_trip.proofs.Digits.{decimal_is}
+use Rattle.ml_round_trip.proofs.Shown.{Shown, shown}
 use Rattle.ml_round_trip.proofs.Derived.{derived}
+use Rattle.ml_round_trip.proofs.OneDepth.{one_depth_of_clause}
 use Rattle.ml_round_trip.proofs.TextBefore.{text_before, text_is, arguments_before, cell_before}
 use Rattle.ml_round_trip.proofs.Standing.{EndsAs}
 use Rattle.ml_round_trip.proofs.NamedTokens.{the_last}
 use Rattle.ml_round_trip.proofs.InOrder.{counted, AreFit, counted_few}
 use Rattle.ml_round_trip.proofs.FirstPlaces.{counted_all}
 use Rattle.ml_round_trip.proofs.Cut.{tree_ends}
+use Rattle.ml_round_trip.proofs.FewTokens.{last_few, tree_few}
+use Rattle.ml_round_trip.proofs.StaysValid.{stays_valid}
 
 mutual
   few_variables : (t : Tree) → length (variables t) ≤ nodes t
@@ -85,14 +97,57 @@ module _ (t : Tree) (valid : is_valid t ≡ true) (small : nodes t ≤ 4096) whe
       tree_ends (text_of t [] ++ stop) place t 0 stop (end (mark_of t) ∷ []) valid fit refl ends_last nothing_before
       (record { names = refl; variables = refl; first = refl; begun = λ e. refl }) (text_is (number_in (firsts (variables t))) t stop)
 
-  pub derived_whole : IsText true (tokens_of t (end (mark_of t) ∷ [])) (read_back t ∷ [])
-  derived_whole = subst (λ c. IsText true (tokens_of t (end (mark_of t) ∷ [])) (c ∷ [])) same (a_clause (derived place t (end (mark_of t) ∷ []) valid refl) refl no_clause)
-    where
-      from_zero : (n : ℕ) → place n ≡ 0 + place_in (firsts (variables t)) n
-      from_zero n = omega arith
+  from_zero : (n : ℕ) → place n ≡ 0 + place n
+  from_zero n = omega arith
 
-      same : written (mark_of t) (substituted (λ n. variable (place n)) t) ≡ read_back t
-      same = ap (λ u. written (mark_of t) u) (alike _ _ t (λ n i. ap variable (from_zero n)))
+  same_term : substituted (λ n. variable (place n)) t ≡ renamed 0 t
+  same_term = alike _ _ t (λ n i. ap variable (from_zero n))
+
+  -- the derivation, with its levels
+  pub record OneClause (w : Written) : Type 0 where
+    pub derivation : IsText true (tokens_of t (end (mark_of t) ∷ [])) (w ∷ [])
+    pub depth : deepest_in derivation ≡ text_levels t
+
+  pub one_clause : OneClause (read_back t)
+  one_clause =
+      let d = derived {c = true} (shown place t (end (mark_of t) ∷ []) valid) refl in
+      subst (λ u. OneClause (written (mark_of t) u)) same_term (record { derivation = a_clause d.derivation refl no_clause; depth = omega (arith, d.depth) })
 
   pub read_again : Reads (text_of t [] ++ stop) (read_back t ∷ [])
-  read_again = record { tokens = tokens_of t (end (mark_of t) ∷ []); whole = cut_whole; text = derived_whole }
+  read_again = record { tokens = tokens_of t (end (mark_of t) ∷ []); whole = cut_whole; text = one_clause.derivation }
+
+  below : (n : ℕ) → In n (variables t) → 0 + place n < 2 ^ 32
+  below n i = omega (arith, place_below (firsts (variables t)) n (in_firsts n (variables t) i), (counted_all (variables t)).all, counted_few place 0 (variables t), few_variables t)
+
+  pub read_within_limits : text_levels t ≤ MOST_LEVELS → IsRead (text_of t [] ++ stop) (read_back t ∷ [])
+  read_within_limits few =
+      record {
+        tokens = tokens_of t (end (mark_of t) ∷ []);
+        whole = cut_whole;
+        text = one_clause.derivation;
+        levels = omega (arith, one_clause.depth);
+        short = (tree_few place t 0 16383 (end (mark_of t) ∷ []) valid (omega arith) (omega arith) (last_few 16383 (mark_of t) (omega arith))).short 0 (omega arith);
+        valid = both_hold (is_valid (renamed 0 t)) true (stays_valid (λ n. 0 + place n) t valid below) refl;
+        small = both_hold (nat_le (nodes (renamed 0 t)) MOST_NODES) true (le-leb (nodes (renamed 0 t)) MOST_NODES (omega (arith, renamed_nodes 0 t))) refl;
+      }
+
+  -- the text's tokens, however they are derived
+  pub one_depth_of_text : (xs : List Lexeme) (cs : List Written) → Ends (text_of t [] ++ stop) nothing_before xs → (d : IsText true xs cs) → deepest_in d ≡ text_levels t
+  one_depth_of_text xs cs ends d =
+      let e : tokens_of t (end (mark_of t) ∷ []) ≡ xs = only_tokens (text_of t [] ++ stop) cut_whole ends in
+      one_depth_of_clause (subst (λ l. Shown l (end (mark_of t) ∷ []) (substituted (λ n. variable (place n)) t) (text_levels t)) e (shown place t (end (mark_of t) ∷ []) valid)) d
+
+  -- it is no other text, and within the limits of no text where it opens too many levels
+  pub read_only_so : (cs : List Written) → IsRead (text_of t [] ++ stop) cs → (cs ≡ read_back t ∷ []) × (text_levels t ≤ MOST_LEVELS)
+  read_only_so cs r =
+      let same : Reads (text_of t [] ++ stop) cs = record { tokens = r.tokens; whole = r.whole; text = r.text } in
+      (only_reading (text_of t [] ++ stop) cs (read_back t ∷ []) same read_again, omega (arith, r.levels, one_depth_of_text r.tokens cs r.whole r.text))
+
+heads_same : (v w : Written) → v ∷ [] ≡ w ∷ [] → v ≡ w
+heads_same v w e = cc
+
+-- the texts of terms tell them apart
+pub texts_apart : (t u : Tree) → is_valid t ≡ true → is_valid u ≡ true → nodes t ≤ 4096 → nodes u ≤ 4096 → text_of t [] ≡ text_of u [] → renamed 0 t ≡ renamed 0 u
+texts_apart t u v w m n e =
+    let other : Reads (text_of t [] ++ stop) (read_back u ∷ []) = subst (λ bs. Reads (bs ++ stop) (read_back u ∷ [])) (sym e) (read_again u w n) in
+    ap (λ (c : Written). c.term) (heads_same (read_back t) (read_back u) (only_reading (text_of t [] ++ stop) (read_back t ∷ []) (read_back u ∷ []) (read_again t v m) other))

@@ -1,8 +1,8 @@
 -- A name that is written bare is one token, whatever of canonical text stands behind it.
-use Rattle.std.specs.Prelude.{◌≡◌, ℕ, suc, ◌+◌, ◌<◌, ◌≤◌, Bool, true, false, ◌&&◌, ◌||◌, ◌==◌, not, List, [], ◌∷◌, ◌++◌, length, codes}
+use Rattle.std.specs.Prelude.{◌≡◌, ℕ, ◌≤◌, Bool, true, false, ◌&&◌, ◌||◌, ◌==◌, not, List, [], ◌∷◌, ◌++◌, length, codes}
 use Rattle.std.specs.List.{list_all}
 use Rattle.std.specs.Str.{bytes_eq}
-use Rattle.std.proofs.Common.{inl, inr, refl, sym, ap, ◌∙◌, arith, subst, eqb-true}
+use Rattle.std.proofs.Common.{inl, inr, refl, sym, arith, subst, eqb-true}
 use Rattle.ml_token.specs.declared.limits.TheConstants.{LONGEST_NAME}
 use Rattle.ml_token.specs.declared.tokens.TokenKind.TheVariants.{Name}
 use Rattle.ml_token.specs.Bytes.{is_one_of, is_layout, is_digit, is_alphanumeric, is_symbol}
@@ -31,9 +31,22 @@ EndsAll b = (is_alphanumeric b ≡ false) × (is_digit b ≡ false) × (is_symbo
 
 stop_tells : (b : ℕ) → is_stop b ≡ true → EndsAll b
 stop_tells b e =
-    is_one_of-each EndsAll (codes ",)]|( ") b e
-    ((refl, refl, refl, refl, refl), ((refl, refl, refl, refl, refl), ((refl, refl, refl, refl, refl), ((refl, refl, refl, refl, refl), ((refl, refl, refl, refl, refl),
-    ((refl, refl, refl, refl, refl), tt))))))
+    is_one_of-each EndsAll (codes ",)]|( ") b e (
+      (refl, refl, refl, refl, refl),
+      (
+        (refl, refl, refl, refl, refl),
+        (
+          (refl, refl, refl, refl, refl),
+          (
+            (refl, refl, refl, refl, refl),
+            (
+              (refl, refl, refl, refl, refl),
+              ((refl, refl, refl, refl, refl), tt),
+            ),
+          ),
+        ),
+      ),
+    )
 
 pub no_letter : (rest : List ℕ) → StopsFirst rest → StopsAt is_alphanumeric rest
 no_letter [] h = absurd h
@@ -77,8 +90,31 @@ abbrev IsSymbol : ℕ → Type 0
 IsSymbol b = (is_symbol b ≡ true) × ((is_layout b || b == 37) ≡ false)
 
 symbol_tells : (b : ℕ) → T.is_symbol b ≡ true → IsSymbol b
-symbol_tells b e = has-each IsSymbol b symbols e
-    ((refl, refl), ((refl, refl), ((refl, refl), ((refl, refl), ((refl, refl), ((refl, refl), ((refl, refl), ((refl, refl), ((refl, refl), ((refl, refl), ((refl, refl), ((refl, refl), ((refl, refl), ((refl, refl), ((refl, refl), ((refl, refl), ((refl, refl), tt)))))))))))))))))
+symbol_tells b e = has-each IsSymbol b symbols e (
+  (refl, refl),
+  (
+    (refl, refl),
+    (
+      (refl, refl),
+      (
+        (refl, refl),
+        (
+          (refl, refl),
+          (
+            (refl, refl),
+            (
+              (refl, refl),
+              (
+                (refl, refl),
+                ((refl, refl), ((refl, refl), ((refl, refl), ((refl, refl), ((refl, refl), ((refl, refl), ((refl, refl), ((refl, refl), ((refl, refl), tt))))))))),
+              ),
+            ),
+          ),
+        ),
+      ),
+    ),
+  ),
+)
 
 all_symbols : (bs : List ℕ) → list_all T.is_symbol bs ≡ true → list_all is_symbol bs ≡ true
 all_symbols [] e = refl
@@ -94,7 +130,8 @@ first_false : (a b : Bool) → (a && true) ≡ false → (a && b) ≡ false
 first_false true b e = absurd (cc)
 first_false false b e = refl
 
-no_end : (b : ℕ) (bs rest : List ℕ) → list_all T.is_symbol (b ∷ bs) ≡ true → bytes_eq (b ∷ bs) (codes ".") ≡ false → (b == 46 && ends_clause (bs ++ rest)) ≡ false
+no_end : (b : ℕ) (bs rest : List ℕ) → list_all T.is_symbol (b ∷ bs) ≡ true → bytes_eq (b ∷ bs) (codes ".") ≡ false
+    → (b == 46 && ends_clause (bs ++ rest)) ≡ false
 no_end b [] rest all other = first_false (b == 46) (ends_clause rest) other
 no_end b (c ∷ cs) rest all other =
     let h = both (T.is_symbol b) (T.is_symbol c && list_all T.is_symbol cs) all in
@@ -121,7 +158,8 @@ solo_token f rest e one other =
       | inr h ↦ subst (λ g. IsToken Name g rest) (sym (same_bytes f (codes ";") h)) (language.solo_name refl)
     ]
 
-pub bare_token : (f rest : List ℕ) → is_bare f ≡ true → bytes_eq f brackets_name ≡ false → bytes_eq f braces_name ≡ false → length f ≤ LONGEST_NAME → StopsFirst rest
+pub bare_token : (f rest : List ℕ) → is_bare f ≡ true → bytes_eq f brackets_name ≡ false → bytes_eq f braces_name ≡ false → length f ≤ LONGEST_NAME
+    → StopsFirst rest
     → IsToken Name f rest
 bare_token f rest e one other short stops =
     elim (either (is_word f || is_symbol_name f) (is_solo f) e) [

@@ -1,9 +1,9 @@
 -- What canonical text shows is derived as the term: each argument and each element has priority 0, and each of them stands before a token that closes, so
 -- that an operator's name is an atom. The derivation has as many levels open as the text.
-use Rattle.std.specs.Prelude.{◌≡◌, ℕ, ◌+◌, max, Bool, true, false, ◌||◌, not, List, [], ◌∷◌}
+use Rattle.std.specs.Prelude.{◌≡◌, ℕ, ◌+◌, Bool, true, false, not, List, [], ◌∷◌}
 use Rattle.std.proofs.Common.{refl, ap, arith}
 use Rattle.ml_term.specs.Tree.{Tree, Trees}
-use Rattle.ml_reader.specs.Lexemes.{Lexeme, name, is_minus}
+use Rattle.ml_reader.specs.Lexemes.{Lexeme, is_minus}
 use Rattle.ml_reader.specs.Operators.{is_operator, closes}
 use Rattle.ml_reader.specs.Grammar as G
 use Rattle.ml_reader.specs.Grammar.{Word, plain, brackets, curlies, AtomBefore, Derives, an_atom, a_compound, a_list, Arguments, last_argument, argument, Elements, last_element, before_bar, element}
@@ -49,7 +49,8 @@ mutual
   derived a_number h = record { derivation = G.a_number; depth = refl }
   derived a_negative h = record { derivation = G.a_negative plain; depth = refl }
   derived (a_name {f = f} {ys = ys} s) h = let w = name_derived s in record { derivation = an_atom w.word (atom_before f ys h); depth = w.depth }
-  derived (a_call s ss) h = let ds = arguments_derived ss in record { derivation = a_compound (name_derived s).word ds.derivation; depth = ap (λ n. 1 + n) ds.depth }
+  derived (a_call s ss) h =
+      let ds = arguments_derived ss in record { derivation = a_compound (name_derived s).word ds.derivation; depth = ap (λ n. 1 + n) ds.depth }
   derived (in_brackets ss) h = let ds = elements_derived ss in record { derivation = a_list ds.derivation; depth = ap (λ n. 1 + n) ds.depth }
 
   arguments_derived : {xs ys : List Lexeme} {ts : Trees} {n : ℕ} → ArgumentsShown xs ys ts n → ArgumentsWithin xs ys ts n

@@ -1,5 +1,5 @@
 -- The text of a term has fewer than four tokens for each node.
-use Rattle.std.specs.Prelude.{◌≡◌, ℕ, suc, ◌+◌, ◌-◌, ◌*◌, ◌<◌, ◌≤◌, Bool, true, false, ◌&&◌, ◌==◌, not, nat_lt, ℤ, pos, negsuc, List, [], ◌∷◌, cond, codes}
+use Rattle.std.specs.Prelude.{◌≡◌, ℕ, suc, ◌+◌, ◌-◌, ◌*◌, ◌<◌, ◌≤◌, Bool, true, false, ◌&&◌, ◌==◌, not, nat_lt, ℤ, pos, negsuc, List, [], ◌∷◌, codes}
 use Rattle.std.specs.Str.{bytes_eq}
 use Rattle.std.proofs.Common.{refl, ◌∙◌, arith}
 use Rattle.std.proofs.lemmas.Bool.{lt-ltb}
@@ -32,7 +32,10 @@ one_short j x xs e = refl
 -- one token more, which ends no clause
 one_more : (m k : ℕ) (x : Lexeme) (xs : List Lexeme) → is_end x ≡ false → m + 1 ≤ k → k ≤ MOST_TOKENS → AreFew k xs → AreFew m (x ∷ xs)
 one_more m k x xs e l b h =
-    record { short = λ j i. one_short j x xs e ∙ both_hold (nat_lt j MOST_TOKENS) (are_short (1 + j) xs) (lt-ltb j MOST_TOKENS (omega arith)) (h.short (1 + j) (omega arith)) }
+    record {
+      short = λ j i. one_short j x xs e ∙ both_hold (nat_lt j MOST_TOKENS) (are_short (1 + j) xs) (lt-ltb j MOST_TOKENS (omega arith))
+          (h.short (1 + j) (omega arith));
+    }
 
 pub last_few : (k : ℕ) (m : Mark) → k < MOST_TOKENS → AreFew k (end m ∷ [])
 last_few k m l = record { short = λ j i. both_hold (nat_lt j MOST_TOKENS) true (lt-ltb j MOST_TOKENS (omega arith)) refl }
@@ -48,16 +51,20 @@ name_few m k f ys l b h =
 integer_few : (m k : ℕ) (z : ℤ) (ys : List Lexeme) → m + 2 ≤ k → k ≤ MOST_TOKENS → AreFew k ys → AreFew m (integer_tokens z ys)
 integer_few m k (pos n) ys l b h = one_more m k (number true n) ys refl (omega arith) b h
 integer_few m k (negsuc n) ys l b h =
-    one_more m (m + 1) (name false (codes "-")) (number true (suc n) ∷ ys) refl (omega arith) (omega arith) (one_more (m + 1) k (number true (suc n)) ys refl (omega arith) b h)
+    one_more m (m + 1) (name false (codes "-")) (number true (suc n) ∷ ys) refl (omega arith) (omega arith)
+    (one_more (m + 1) k (number true (suc n)) ys refl (omega arith) b h)
 
 module _ (place : ℕ → ℕ) where
   -- a name and its arguments
   call_few : (m k : ℕ) (f : List ℕ) (ts : Trees) (ys : List Lexeme) → m + 3 ≤ k → k ≤ MOST_TOKENS → AreFew k (argument_tokens place ts (close ∷ ys))
       → AreFew m (name_tokens f (paren true ∷ argument_tokens place ts (close ∷ ys)))
-  call_few m k f ts ys l b h = name_few m (m + 2) f (paren true ∷ argument_tokens place ts (close ∷ ys)) (omega arith) (omega arith) (one_more (m + 2) k (paren true) _ refl (omega arith) b h)
+  call_few m k f ts ys l b h =
+      name_few m (m + 2) f (paren true ∷ argument_tokens place ts (close ∷ ys)) (omega arith) (omega arith)
+      (one_more (m + 2) k (paren true) _ refl (omega arith) b h)
 
   mutual
-    pub tree_few : (t : Tree) (m k : ℕ) (ys : List Lexeme) → is_valid t ≡ true → m + 4 * nodes t ≤ k + 1 → k ≤ MOST_TOKENS → AreFew k ys → AreFew m (tokens place t ys)
+    pub tree_few : (t : Tree) (m k : ℕ) (ys : List Lexeme) → is_valid t ≡ true → m + 4 * nodes t ≤ k + 1 → k ≤ MOST_TOKENS → AreFew k ys
+        → AreFew m (tokens place t ys)
     tree_few (variable n) m k ys v l b h = one_more m k (unknown (place n)) ys refl (omega arith) b h
     tree_few (integer z) m k ys v l b h = integer_few m k z ys (omega arith) b h
     tree_few (atom f) m k ys v l b h = name_few m k f ys (omega arith) b h
@@ -65,7 +72,8 @@ module _ (place : ℕ → ℕ) where
         let w = valid_compound f ts v in
         cond_cases (AreFew m) (is_cell f ts) _ _
         (λ e. one_more m (m + 1) bracket _ refl (omega arith) (omega arith)
-        (cell_few ts (m + 1) (k - 1) (unbracket ∷ ys) (cell_tells f ts e).1 w.2 (omega arith) (omega arith) (one_more (k - 1) k unbracket ys refl (omega arith) b h)))
+        (cell_few ts (m + 1) (k - 1) (unbracket ∷ ys) (cell_tells f ts e).1 w.2 (omega arith) (omega arith)
+        (one_more (k - 1) k unbracket ys refl (omega arith) b h)))
         (λ e. call_few m (m + 3) f ts ys (omega arith) (omega arith)
         (arguments_few ts (m + 3) (k - 1) (close ∷ ys) w.1 w.2 (omega arith) (omega arith) (one_more (k - 1) k close ys refl (omega arith) b h)))
 
@@ -77,7 +85,8 @@ module _ (place : ℕ → ℕ) where
         tree_few t m (k - 4 * nodes_of ts) (more_tokens place ts ys) w.0 (omega (arith, nodes_above_zero t)) (omega arith)
         (more_few ts (k - 4 * nodes_of ts) k ys w.1 (omega (arith, nodes_above_zero t)) b h)
 
-    more_few : (ts : Trees) (m k : ℕ) (ys : List Lexeme) → are_valid ts ≡ true → m + 4 * nodes_of ts ≤ k → k ≤ MOST_TOKENS → AreFew k ys → AreFew m (more_tokens place ts ys)
+    more_few : (ts : Trees) (m k : ℕ) (ys : List Lexeme) → are_valid ts ≡ true → m + 4 * nodes_of ts ≤ k → k ≤ MOST_TOKENS → AreFew k ys
+        → AreFew m (more_tokens place ts ys)
     more_few no_trees m k ys v l b h = fewer m k ys (omega arith) h
     more_few (tree t ts) m k ys v l b h =
         let w = both (is_valid t) (are_valid ts) v in
@@ -85,7 +94,8 @@ module _ (place : ℕ → ℕ) where
         (tree_few t (m + 1) (k - 4 * nodes_of ts) (more_tokens place ts ys) w.0 (omega (arith, nodes_above_zero t)) (omega arith)
         (more_few ts (k - 4 * nodes_of ts) k ys w.1 (omega arith) b h))
 
-    cell_few : (ts : Trees) (m k : ℕ) (ys : List Lexeme) → (arity ts == 2) ≡ true → are_valid ts ≡ true → m + 4 * nodes_of ts ≤ k + 1 → k ≤ MOST_TOKENS → AreFew k ys
+    cell_few : (ts : Trees) (m k : ℕ) (ys : List Lexeme) → (arity ts == 2) ≡ true → are_valid ts ≡ true → m + 4 * nodes_of ts ≤ k + 1 → k ≤ MOST_TOKENS
+        → AreFew k ys
         → AreFew m (cell_tokens place ts ys)
     cell_few no_trees m k ys e v l b h = absurd (cc)
     cell_few (tree t no_trees) m k ys e v l b h = absurd (cc)
@@ -95,7 +105,8 @@ module _ (place : ℕ → ℕ) where
         (rest_few u (k - 4 * nodes u) k ys (both (is_valid u) true w.1).0 (omega (arith, nodes_above_zero t)) b h)
     cell_few (tree t (tree u (tree x ts))) m k ys e v l b h = absurd (not_two (arity ts) e)
 
-    rest_few : (t : Tree) (m k : ℕ) (ys : List Lexeme) → is_valid t ≡ true → m + 4 * nodes t ≤ k → k ≤ MOST_TOKENS → AreFew k ys → AreFew m (rest_tokens place t ys)
+    rest_few : (t : Tree) (m k : ℕ) (ys : List Lexeme) → is_valid t ≡ true → m + 4 * nodes t ≤ k → k ≤ MOST_TOKENS → AreFew k ys
+        → AreFew m (rest_tokens place t ys)
     rest_few (variable n) m k ys v l b h =
         one_more m (m + 1) bar _ refl (omega arith) (omega arith) (one_more (m + 1) k (unknown (place n)) ys refl (omega arith) b h)
     rest_few (integer z) m k ys v l b h = one_more m (m + 1) bar _ refl (omega arith) (omega arith) (integer_few (m + 1) k z ys (omega arith) b h)

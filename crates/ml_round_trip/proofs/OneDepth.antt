@@ -1,9 +1,9 @@
 -- However the tokens of canonical text are derived, the same tokens are left and the same levels are open.
-use Rattle.std.specs.Prelude.{◌≡◌, ℕ, ◌+◌, max, ◌⊎◌, Bool, true, false, ◌&&◌, ◌||◌, not, IsTrue, List, [], ◌∷◌, Option, Some, None, codes}
+use Rattle.std.specs.Prelude.{◌≡◌, ℕ, ◌+◌, max, ◌⊎◌, Bool, true, false, not, IsTrue, List, [], ◌∷◌, Some, None, codes}
 use Rattle.std.proofs.Common.{inl, inr, refl, sym, ap, ◌∙◌, subst, arith}
 use Rattle.ml_term.specs.Tree.{Tree, Trees}
-use Rattle.ml_reader.specs.Lexemes.{Mark, Written, Lexeme, name, unknown, number, paren, close, bracket, unbracket, brace, unbrace, bar, comma, end}
-use Rattle.ml_reader.specs.Operators.{Operator, is_operator, infix_at, closes, fits}
+use Rattle.ml_reader.specs.Lexemes.{Mark, Written, Lexeme, name, unknown, number, paren, close, bracket, unbracket, brace, bar, comma, end}
+use Rattle.ml_reader.specs.Operators.{Operator, infix_at, closes}
 use Rattle.ml_reader.specs.Grammar as G
 use Rattle.ml_reader.specs.Grammar.{Word, plain, brackets, curlies, AtomBefore, joins, Derives, a_negative, in_braces, an_atom, a_compound, in_parens, a_list, a_prefix, an_infix, Arguments, last_argument, argument, Elements, last_element, before_bar, element, IsText, no_clause, a_clause}
 use Rattle.ml_reader.proofs.Complete.{Begins, begins, elements_begin}
@@ -115,7 +115,8 @@ number_first c b n zs ys e h = let g : EndsFirst c (number b n ∷ zs) = subst (
 paren_first : (c b : Bool) (zs ys : List Lexeme) → paren b ∷ zs ≡ ys → EndsFirst c ys → ⊥
 paren_first c b zs ys e h = let g : EndsFirst c (paren b ∷ zs) = subst (EndsFirst c) (sym e) h in cc (g.0)
 
-at_negative : (c : Bool) {xs ys zs : List Lexeme} {t : Tree} {n k : ℕ} {f : List ℕ} → Shown xs ys t k → Word xs (number true n ∷ zs) true f → EndsFirst c ys → Same zs ys 0 k
+at_negative : (c : Bool) {xs ys zs : List Lexeme} {t : Tree} {n k : ℕ} {f : List ℕ} → Shown xs ys t k → Word xs (number true n ∷ zs) true f → EndsFirst c ys
+    → Same zs ys 0 k
 at_negative c a_variable w h = absurd (no_word refl w)
 at_negative c a_number w h = absurd (no_word refl w)
 at_negative c S.a_negative w h = let e = (one_minus w).0 in record { left = cc; depth = refl }
@@ -131,7 +132,8 @@ at_paren : {b : Bool} {xs ys : List Lexeme} {t : Tree} {k : ℕ} → Shown (pare
 at_paren (a_name s) = no_name refl s
 at_paren (a_call s ss) = no_name refl s
 
-at_atom : (c : Bool) {xs ys zs : List Lexeme} {t : Tree} {k : ℕ} {f : List ℕ} {m : Bool} → Shown xs ys t k → (w : Word xs zs m f) → Follows c zs → Same zs ys (opened_by w) k
+at_atom : (c : Bool) {xs ys zs : List Lexeme} {t : Tree} {k : ℕ} {f : List ℕ} {m : Bool} → Shown xs ys t k → (w : Word xs zs m f) → Follows c zs
+    → Same zs ys (opened_by w) k
 at_atom c a_variable w h = absurd (no_word refl w)
 at_atom c a_number w h = absurd (no_word refl w)
 at_atom c S.a_negative w h = absurd (no_number c _ _ _ _ (one_minus w).0 h)
@@ -142,7 +144,8 @@ at_atom c (in_brackets ss) w h = absurd (no_empty ss w)
 tails_same : (x : Lexeme) (xs ys : List Lexeme) → x ∷ xs ≡ x ∷ ys → xs ≡ ys
 tails_same x xs ys e = cc
 
-at_compound : (c : Bool) {xs ys zs vs : List Lexeme} {t : Tree} {k : ℕ} {f : List ℕ} {m : Bool} (depth : ℕ) → Shown xs ys t k → Word xs (paren true ∷ zs) m f → EndsFirst c ys
+at_compound : (c : Bool) {xs ys zs vs : List Lexeme} {t : Tree} {k : ℕ} {f : List ℕ} {m : Bool} (depth : ℕ) → Shown xs ys t k → Word xs (paren true ∷ zs) m f
+    → EndsFirst c ys
     → ((ts : Trees) (n : ℕ) → ArgumentsShown zs ys ts n → Same vs ys depth n) → Same vs ys (1 + depth) k
 at_compound c depth a_variable w h r = absurd (no_word refl w)
 at_compound c depth a_number w h r = absurd (no_word refl w)
@@ -154,13 +157,16 @@ at_compound c {zs = zs} {vs = vs} depth (a_call {ys = ys} {zs = us} {ts = ts} {n
     record { left = d.left; depth = ap (λ n. 1 + n) d.depth }
 at_compound c depth (in_brackets ss) w h r = absurd (no_empty ss w)
 
-at_list : {xs ys vs : List Lexeme} {t : Tree} {k : ℕ} (depth : ℕ) → Shown (bracket ∷ xs) ys t k → Begins xs → ((u : Tree) (n : ℕ) → ElementsShown xs ys u n → Same vs ys depth n)
+at_list : {xs ys vs : List Lexeme} {t : Tree} {k : ℕ} (depth : ℕ) → Shown (bracket ∷ xs) ys t k → Begins xs
+    → ((u : Tree) (n : ℕ) → ElementsShown xs ys u n → Same vs ys depth n)
     → Same vs ys (1 + depth) k
 at_list depth (a_name two_brackets) b r = absurd (cc)
 at_list depth (a_call two_brackets ss) b r = absurd (cc)
-at_list {vs = vs} depth (in_brackets {ys = ys} {t = t} {n = n} ss) b r = let d : Same vs ys depth n = r t n ss in record { left = d.left; depth = ap (λ n. 1 + n) d.depth }
+at_list {vs = vs} depth (in_brackets {ys = ys} {t = t} {n = n} ss) b r =
+    let d : Same vs ys depth n = r t n ss in record { left = d.left; depth = ap (λ n. 1 + n) d.depth }
 
-at_prefix : (c : Bool) {xs ys zs : List Lexeme} {t : Tree} {k : ℕ} {f : List ℕ} {m : Bool} → Shown xs ys t k → Word xs zs m f → EndsFirst c ys → IsTrue (not (joins m zs)) → Begins zs → ⊥
+at_prefix : (c : Bool) {xs ys zs : List Lexeme} {t : Tree} {k : ℕ} {f : List ℕ} {m : Bool} → Shown xs ys t k → Word xs zs m f → EndsFirst c ys
+    → IsTrue (not (joins m zs)) → Begins zs → ⊥
 at_prefix c a_variable w h j b = no_word refl w
 at_prefix c a_number w h j b = no_word refl w
 at_prefix c {zs = zs} {m = m} (S.a_negative {n = n} {ys = ys}) w h j b =
@@ -186,7 +192,8 @@ other : {x y : Lexeme} {zs ys : List Lexeme} {m n : ℕ} → (x ≡ y → ⊥) �
 other {x} {y} f h = let q = h.left in f (cc q)
 
 mutual
-  one_depth : {c : Bool} {xs ys zs : List Lexeme} {p n : ℕ} {t u : Tree} → Shown xs ys t n → EndsFirst c ys → (d : Derives true c xs zs p u) → Follows c zs → Same zs ys (deepest d) n
+  one_depth : {c : Bool} {xs ys zs : List Lexeme} {p n : ℕ} {t u : Tree} → Shown xs ys t n → EndsFirst c ys → (d : Derives true c xs zs p u) → Follows c zs
+      → Same zs ys (deepest d) n
   one_depth s h G.a_variable f = at_variable s
   one_depth s h G.a_number f = at_number s
   one_depth {c} s h (a_negative w) f = at_negative c s w h
@@ -198,7 +205,8 @@ mutual
   one_depth {c} s h (a_prefix w e n d l) f = absurd (at_prefix c s w h n (begins d))
   one_depth {c} s h (an_infix {x = x} {ys = ys} {o = o} d e l d' l') f = absurd (no_infix c x ys _ o e (one_depth s h d (inr (o, e))).left h)
 
-  one_depth_of_arguments : {xs ys zs : List Lexeme} {n : ℕ} {ts us : Trees} → ArgumentsShown xs ys ts n → (d : Arguments true xs zs us) → Same zs ys (deepest_arguments d) n
+  one_depth_of_arguments : {xs ys zs : List Lexeme} {n : ℕ} {ts us : Trees} → ArgumentsShown xs ys ts n → (d : Arguments true xs zs us)
+      → Same zs ys (deepest_arguments d) n
   one_depth_of_arguments (the_last s) (last_argument d l) = closed close (one_depth s (refl, refl) d (inl refl))
   one_depth_of_arguments (the_last s) (argument d l ds) = absurd (other (λ q. cc) (one_depth s (refl, refl) d (inl refl)))
   one_depth_of_arguments (one_more s ss) (last_argument d l) = absurd (other (λ q. cc) (one_depth s (refl, refl) d (inl refl)))
@@ -206,7 +214,8 @@ mutual
       let h = one_depth s (refl, refl) d (inl refl) in
       greatest h (one_depth_of_arguments (subst (λ l. ArgumentsShown l zs ts n) (sym (tails_same comma us ys h.left)) ss) ds)
 
-  one_depth_of_elements : {xs ys zs : List Lexeme} {n : ℕ} {t u : Tree} → ElementsShown xs ys t n → (d : Elements true xs zs u) → Same zs ys (deepest_elements d) n
+  one_depth_of_elements : {xs ys zs : List Lexeme} {n : ℕ} {t u : Tree} → ElementsShown xs ys t n → (d : Elements true xs zs u)
+      → Same zs ys (deepest_elements d) n
   one_depth_of_elements (no_more s) (last_element d l) = closed unbracket (one_depth s (refl, refl) d (inl refl))
   one_depth_of_elements (no_more s) (before_bar d l d' l') = absurd (other (λ q. cc) (one_depth s (refl, refl) d (inl refl)))
   one_depth_of_elements (no_more s) (element d l ds) = absurd (other (λ q. cc) (one_depth s (refl, refl) d (inl refl)))
@@ -227,7 +236,8 @@ none_left xs e no_clause = refl
 none_left xs e (a_clause d l i) = absurd (subst Begins e (begins d))
 
 -- so the tokens of a clause are
-pub one_depth_of_clause : {xs : List Lexeme} {m : Mark} {t : Tree} {n : ℕ} {cs : List Written} → Shown xs (end m ∷ []) t n → (d : IsText true xs cs) → deepest_in d ≡ n
+pub one_depth_of_clause : {xs : List Lexeme} {m : Mark} {t : Tree} {n : ℕ} {cs : List Written} → Shown xs (end m ∷ []) t n → (d : IsText true xs cs)
+    → deepest_in d ≡ n
 one_depth_of_clause s no_clause = absurd (shown_begins s)
 one_depth_of_clause s (a_clause {m = k} {ys = ys} d l i) =
     let h = one_depth {c = true} s (refl, refl) d (inl refl) in

@@ -1,34 +1,33 @@
 -- The canonical text of a term, followed by a space and a full stop, is a text of one clause: the term with its variables numbered anew.
-use Rattle.std.specs.Prelude.{◌≡◌, ℕ, suc, ◌+◌, ◌^◌, ◌<◌, ◌≤◌, Bool, true, false, ◌&&◌, nat_le, ℤ, pos, negsuc, List, [], ◌∷◌, ◌++◌, length, drop, codes, cond}
+use Rattle.std.specs.Prelude.{◌≡◌, ℕ, ◌+◌, ◌^◌, ◌<◌, ◌≤◌, true, nat_le, pos, negsuc, List, [], ◌∷◌, ◌++◌, length, codes}
 use Rattle.std.specs.List.{flat_map}
-use Rattle.std.proofs.Common.{refl, sym, ap, ◌∙◌, arith, subst, length-append}
+use Rattle.std.proofs.Common.{refl, sym, ap, arith, subst, length-append}
 use Rattle.std.proofs.lemmas.Bool.{ltb-true, le-leb}
 use Rattle.ml_term.specs.Tree.{Tree, Trees, variable, integer, atom, compound, no_trees, tree, nodes, nodes_of, variables, variables_of, firsts, place_in, width, substituted, renamed}
 use Rattle.ml_term.specs.Valid.{is_valid}
 use Rattle.ml_term.specs.CanonicalBytes.{integer_offset}
-use Rattle.ml_term.specs.Decimal.{decimal_text, integer_text}
 use Rattle.ml_term.specs.Text.{joined, texts, cell_text, is_cell, is_bare, quoted_byte, atom_text, text, number_in, text_of}
 use Rattle.ml_term.proofs.Distinct.{In}
 use Rattle.ml_term.proofs.Substitution.{alike}
 use Rattle.ml_term.proofs.Renaming.{in_firsts, place_below}
 use Rattle.ml_term.proofs.Numbering.{renamed_nodes}
-use Rattle.ml_reader.specs.Lexemes.{Mark, Written, written, Lexeme, end}
+use Rattle.ml_reader.specs.Lexemes.{Written, written, Lexeme, end}
 use Rattle.ml_reader.specs.Tokens.{nothing_before, Ends}
-use Rattle.ml_reader.specs.Grammar.{Derives, IsText, no_clause, a_clause}
+use Rattle.ml_reader.specs.Grammar.{IsText, no_clause, a_clause}
 use Rattle.ml_reader.specs.Reading.{Reads}
 use Rattle.ml_reader.proofs.ReadingLaws.{only_tokens, only_reading}
 use Rattle.ml_reader.specs.declared.limits.TheConstants.{MOST_LEVELS, MOST_NODES}
 use Rattle.ml_reader.specs.Levels.{deepest_in}
 use Rattle.ml_reader.specs.Texts.{IsRead}
 use Rattle.ml_round_trip.specs.TextLevels.{text_levels}
-use Rattle.ml_round_trip.specs.CanonicalTokens.{tokens, tokens_of}
-use Rattle.ml_round_trip.specs.ReadBack.{variable_names, read_back}
+use Rattle.ml_round_trip.specs.CanonicalTokens.{tokens_of}
+use Rattle.ml_round_trip.specs.ReadBack.{mark_of, read_back}
 use Rattle.ml_round_trip.proofs.Tests.{cond_cases, both_hold}
 use Rattle.ml_round_trip.proofs.Digits.{decimal_is}
 use Rattle.ml_round_trip.proofs.Shown.{Shown, shown}
 use Rattle.ml_round_trip.proofs.Derived.{derived}
 use Rattle.ml_round_trip.proofs.OneDepth.{one_depth_of_clause}
-use Rattle.ml_round_trip.proofs.TextBefore.{text_before, text_is, arguments_before, cell_before}
+use Rattle.ml_round_trip.proofs.TextBefore.{text_is}
 use Rattle.ml_round_trip.proofs.Standing.{EndsAs}
 use Rattle.ml_round_trip.proofs.NamedTokens.{the_last}
 use Rattle.ml_round_trip.proofs.InOrder.{counted, AreFit, counted_few}
@@ -72,10 +71,6 @@ some_text number (compound f ts) v =
     cond_cases (λ xs. 1 ≤ length xs) (is_cell f ts) (91 ∷ cell_text number ts ++ 93 ∷ []) (atom_text f ++ 40 ∷ joined (texts number ts) ++ 41 ∷ [])
     (λ e. omega arith) (λ e. some_behind (atom_text f ++ 40 ∷ joined (texts number ts)) [] 41)
 
--- what the tokens tell of the clause at its end
-abbrev pub mark_of : Tree → Mark
-mark_of t = record { names = variable_names (width t); place = 0 }
-
 module _ (t : Tree) (valid : is_valid t ≡ true) (small : nodes t ≤ 4096) where
   abbrev place : ℕ → ℕ
   place n = place_in (firsts (variables t)) n
@@ -90,7 +85,9 @@ module _ (t : Tree) (valid : is_valid t ≡ true) (small : nodes t ≤ 4096) whe
   long = omega (arith, length-append (text_of t []) stop, some_text (number_in (firsts (variables t))) t valid)
 
   ends_last : EndsAs (text_of t [] ++ stop) (counted place 0 (variables t)) stop (end (mark_of t) ∷ [])
-  ends_last = subst (λ n. EndsAs (text_of t [] ++ stop) n stop (end (mark_of t) ∷ [])) (sym (counted_all (variables t)).all) (the_last (text_of t [] ++ stop) (width t) long)
+  ends_last =
+      subst (λ n. EndsAs (text_of t [] ++ stop) n stop (end (mark_of t) ∷ [])) (sym (counted_all (variables t)).all)
+      (the_last (text_of t [] ++ stop) (width t) long)
 
   pub cut_whole : Ends (text_of t [] ++ stop) nothing_before (tokens_of t (end (mark_of t) ∷ []))
   cut_whole =
@@ -117,7 +114,15 @@ module _ (t : Tree) (valid : is_valid t ≡ true) (small : nodes t ≤ 4096) whe
   read_again = record { tokens = tokens_of t (end (mark_of t) ∷ []); whole = cut_whole; text = one_clause.derivation }
 
   below : (n : ℕ) → In n (variables t) → 0 + place n < 2 ^ 32
-  below n i = omega (arith, place_below (firsts (variables t)) n (in_firsts n (variables t) i), (counted_all (variables t)).all, counted_few place 0 (variables t), few_variables t)
+  below n i =
+      omega (
+        arith,
+        place_below (firsts (variables t)) n (in_firsts n (variables t) i),
+        (counted_all (variables t)).all,
+        counted_few place 0
+            (variables t),
+        few_variables t,
+      )
 
   pub read_within_limits : text_levels t ≤ MOST_LEVELS → IsRead (text_of t [] ++ stop) (read_back t ∷ [])
   read_within_limits few =
@@ -126,16 +131,19 @@ module _ (t : Tree) (valid : is_valid t ≡ true) (small : nodes t ≤ 4096) whe
         whole = cut_whole;
         text = one_clause.derivation;
         levels = omega (arith, one_clause.depth);
-        short = (tree_few place t 0 16383 (end (mark_of t) ∷ []) valid (omega arith) (omega arith) (last_few 16383 (mark_of t) (omega arith))).short 0 (omega arith);
+        short = (tree_few place t 0 16383 (end (mark_of t) ∷ []) valid (omega arith) (omega arith) (last_few 16383 (mark_of t) (omega arith))).short 0
+            (omega arith);
         valid = both_hold (is_valid (renamed 0 t)) true (stays_valid (λ n. 0 + place n) t valid below) refl;
         small = both_hold (nat_le (nodes (renamed 0 t)) MOST_NODES) true (le-leb (nodes (renamed 0 t)) MOST_NODES (omega (arith, renamed_nodes 0 t))) refl;
       }
 
   -- the text's tokens, however they are derived
-  pub one_depth_of_text : (xs : List Lexeme) (cs : List Written) → Ends (text_of t [] ++ stop) nothing_before xs → (d : IsText true xs cs) → deepest_in d ≡ text_levels t
+  pub one_depth_of_text : (xs : List Lexeme) (cs : List Written) → Ends (text_of t [] ++ stop) nothing_before xs → (d : IsText true xs cs)
+      → deepest_in d ≡ text_levels t
   one_depth_of_text xs cs ends d =
       let e : tokens_of t (end (mark_of t) ∷ []) ≡ xs = only_tokens (text_of t [] ++ stop) cut_whole ends in
-      one_depth_of_clause (subst (λ l. Shown l (end (mark_of t) ∷ []) (substituted (λ n. variable (place n)) t) (text_levels t)) e (shown place t (end (mark_of t) ∷ []) valid)) d
+      one_depth_of_clause (subst (λ l. Shown l (end (mark_of t) ∷ []) (substituted (λ n. variable (place n)) t) (text_levels t)) e
+      (shown place t (end (mark_of t) ∷ []) valid)) d
 
   -- it is no other text, and within the limits of no text where it opens too many levels
   pub read_only_so : (cs : List Written) → IsRead (text_of t [] ++ stop) cs → (cs ≡ read_back t ∷ []) × (text_levels t ≤ MOST_LEVELS)
@@ -147,7 +155,9 @@ heads_same : (v w : Written) → v ∷ [] ≡ w ∷ [] → v ≡ w
 heads_same v w e = cc
 
 -- the texts of terms tell them apart
-pub texts_apart : (t u : Tree) → is_valid t ≡ true → is_valid u ≡ true → nodes t ≤ 4096 → nodes u ≤ 4096 → text_of t [] ≡ text_of u [] → renamed 0 t ≡ renamed 0 u
+pub texts_apart : (t u : Tree) → is_valid t ≡ true → is_valid u ≡ true → nodes t ≤ 4096 → nodes u ≤ 4096 → text_of t [] ≡ text_of u []
+    → renamed 0 t ≡ renamed 0 u
 texts_apart t u v w m n e =
     let other : Reads (text_of t [] ++ stop) (read_back u ∷ []) = subst (λ bs. Reads (bs ++ stop) (read_back u ∷ [])) (sym e) (read_again u w n) in
-    ap (λ (c : Written). c.term) (heads_same (read_back t) (read_back u) (only_reading (text_of t [] ++ stop) (read_back t ∷ []) (read_back u ∷ []) (read_again t v m) other))
+    ap (λ (c : Written). c.term)
+    (heads_same (read_back t) (read_back u) (only_reading (text_of t [] ++ stop) (read_back t ∷ []) (read_back u ∷ []) (read_again t v m) other))

@@ -1,6 +1,6 @@
 -- The part of the grammar that canonical text uses: the tokens xs begin with what is written of a term, and ys are left. No operator is one there. The
 -- tokens of a term are such, with as many levels as its text has.
-use Rattle.std.specs.Prelude.{pos, neg_ℤ, ◌≡◌, ℕ, suc, ◌+◌, max, ◌≤◌, Bool, true, false, ◌&&◌, ◌||◌, ◌==◌, not, nat_le, ℤ, negsuc, List, [], ◌∷◌, cond, codes}
+use Rattle.std.specs.Prelude.{pos, neg_ℤ, ◌≡◌, ℕ, ◌+◌, max, ◌≤◌, Bool, true, false, ◌&&◌, ◌||◌, ◌==◌, not, nat_le, ℤ, negsuc, List, ◌∷◌, cond, codes}
 use Rattle.std.specs.Str.{bytes_eq}
 use Rattle.std.proofs.Common.{refl, sym, subst, arith}
 use Rattle.ml_term.specs.Tree.{Tree, Trees, variable, integer, atom, compound, no_trees, tree, arity, substituted, substituted_in}
@@ -25,19 +25,23 @@ mutual
     a_number : {n : ℕ} {ys : List Lexeme} → Shown (number true n ∷ ys) ys (integer (pos n)) 0
     a_negative : {n : ℕ} {ys : List Lexeme} → Shown (name false (codes "-") ∷ number true n ∷ ys) ys (integer (neg_ℤ (pos n))) 0
     a_name : {f : List ℕ} {xs ys : List Lexeme} {n : ℕ} → NameShown xs ys f n → Shown xs ys (atom f) n
-    a_call : {f : List ℕ} {xs ys zs : List Lexeme} {ts : Trees} {m n : ℕ} → NameShown xs (paren true ∷ ys) f m → ArgumentsShown ys zs ts n → Shown xs zs (compound f ts) (1 + n)
+    a_call : {f : List ℕ} {xs ys zs : List Lexeme} {ts : Trees} {m n : ℕ} → NameShown xs (paren true ∷ ys) f m → ArgumentsShown ys zs ts n
+        → Shown xs zs (compound f ts) (1 + n)
     in_brackets : {xs ys : List Lexeme} {t : Tree} {n : ℕ} → ElementsShown xs ys t n → Shown (bracket ∷ xs) ys t (1 + n)
 
   -- arguments up to the closing parenthesis
   pub data ArgumentsShown : List Lexeme → List Lexeme → Trees → ℕ → Type 0 where
     the_last : {xs ys : List Lexeme} {t : Tree} {n : ℕ} → Shown xs (close ∷ ys) t n → ArgumentsShown xs ys (tree t no_trees) (max n 0)
-    one_more : {xs ys zs : List Lexeme} {t : Tree} {ts : Trees} {m n : ℕ} → Shown xs (comma ∷ ys) t m → ArgumentsShown ys zs ts n → ArgumentsShown xs zs (tree t ts) (max m n)
+    one_more : {xs ys zs : List Lexeme} {t : Tree} {ts : Trees} {m n : ℕ} → Shown xs (comma ∷ ys) t m → ArgumentsShown ys zs ts n
+        → ArgumentsShown xs zs (tree t ts) (max m n)
 
   -- elements up to the closing bracket
   pub data ElementsShown : List Lexeme → List Lexeme → Tree → ℕ → Type 0 where
     no_more : {xs ys : List Lexeme} {t : Tree} {n : ℕ} → Shown xs (unbracket ∷ ys) t n → ElementsShown xs ys (cell t (atom brackets_name)) (max n 0)
-    a_tail : {xs ys zs : List Lexeme} {t u : Tree} {m n : ℕ} → Shown xs (bar ∷ ys) t m → Shown ys (unbracket ∷ zs) u n → ElementsShown xs zs (cell t u) (max m n)
-    one_element : {xs ys zs : List Lexeme} {t u : Tree} {m n : ℕ} → Shown xs (comma ∷ ys) t m → ElementsShown ys zs u n → ElementsShown xs zs (cell t u) (max m n)
+    a_tail : {xs ys zs : List Lexeme} {t u : Tree} {m n : ℕ} → Shown xs (bar ∷ ys) t m → Shown ys (unbracket ∷ zs) u n
+        → ElementsShown xs zs (cell t u) (max m n)
+    one_element : {xs ys zs : List Lexeme} {t u : Tree} {m n : ℕ} → Shown xs (comma ∷ ys) t m → ElementsShown ys zs u n
+        → ElementsShown xs zs (cell t u) (max m n)
 
 -- what holds of either side of two choices
 choices : (P : List Lexeme → ℕ → Type 0) (b : Bool) (xs ys : List Lexeme) (m n : ℕ) → (b ≡ true → P xs m) → (b ≡ false → P ys n) → P (cond b xs ys) (cond b m n)
@@ -65,13 +69,16 @@ valid_compound f ts v =
     let n = both (is_name f) (nat_le 1 (arity ts)) m.0 in
     (n.0, le_holds 1 (arity ts) n.1, l.1)
 
-list_shown : {f : List ℕ} {xs ys : List Lexeme} {ts : Trees} {n : ℕ} → f ≡ dot → ElementsShown xs ys (compound dot ts) n → Shown (bracket ∷ xs) ys (compound f ts) (1 + n)
+list_shown : {f : List ℕ} {xs ys : List Lexeme} {ts : Trees} {n : ℕ} → f ≡ dot → ElementsShown xs ys (compound dot ts) n
+    → Shown (bracket ∷ xs) ys (compound f ts) (1 + n)
 list_shown {f} {xs} {ys} {ts} {n} e d = subst (λ g. Shown (bracket ∷ xs) ys (compound g ts) (1 + n)) (sym e) (in_brackets d)
 
-end_shown : {f : List ℕ} {xs ys : List Lexeme} {t : Tree} {n : ℕ} → f ≡ brackets_name → Shown xs (unbracket ∷ ys) t n → ElementsShown xs ys (cell t (atom f)) (max n 0)
+end_shown : {f : List ℕ} {xs ys : List Lexeme} {t : Tree} {n : ℕ} → f ≡ brackets_name → Shown xs (unbracket ∷ ys) t n
+    → ElementsShown xs ys (cell t (atom f)) (max n 0)
 end_shown {f} {xs} {ys} {t} {n} e d = subst (λ g. ElementsShown xs ys (cell t (atom g)) (max n 0)) (sym e) (no_more d)
 
-element_shown : {f : List ℕ} {xs ys zs : List Lexeme} {t : Tree} {ts : Trees} {m n : ℕ} → f ≡ dot → Shown xs (comma ∷ ys) t m → ElementsShown ys zs (compound dot ts) n
+element_shown : {f : List ℕ} {xs ys zs : List Lexeme} {t : Tree} {ts : Trees} {m n : ℕ} → f ≡ dot → Shown xs (comma ∷ ys) t m
+    → ElementsShown ys zs (compound dot ts) n
     → ElementsShown xs zs (cell t (compound f ts)) (max m n)
 element_shown {f} {xs} {ys} {zs} {t} {ts} {m} {n} e d ds = subst (λ g. ElementsShown xs zs (cell t (compound g ts)) (max m n)) (sym e) (one_element d ds)
 
@@ -90,9 +97,11 @@ module _ (place : ℕ → ℕ) where
     shown (compound f ts) ys v =
         choices (λ xs n. Shown xs ys (compound f (all_numbered ts)) (1 + n)) (is_cell f ts) _ _ _ _
         (λ e. list_shown (cell_tells f ts e).0 (cell_shown ts ys (cell_tells f ts e).1 (valid_compound f ts v).2))
-        (λ e. a_call (name_shown f (paren true ∷ argument_tokens place ts (close ∷ ys))) (arguments_shown ts ys (valid_compound f ts v).1 (valid_compound f ts v).2))
+        (λ e. a_call (name_shown f (paren true ∷ argument_tokens place ts (close ∷ ys)))
+        (arguments_shown ts ys (valid_compound f ts v).1 (valid_compound f ts v).2))
 
-    arguments_shown : (ts : Trees) (ys : List Lexeme) → 1 ≤ arity ts → are_valid ts ≡ true → ArgumentsShown (argument_tokens place ts (close ∷ ys)) ys (all_numbered ts) (argument_levels ts)
+    arguments_shown : (ts : Trees) (ys : List Lexeme) → 1 ≤ arity ts → are_valid ts ≡ true
+        → ArgumentsShown (argument_tokens place ts (close ∷ ys)) ys (all_numbered ts) (argument_levels ts)
     arguments_shown no_trees ys l v = absurd (omega arith)
     arguments_shown (tree t ts) ys l v =
         let w = both (is_valid t) (are_valid ts) v in

@@ -1,5 +1,5 @@
 -- One token of a text, and the tokens behind it up to the text's end.
-use Rattle.std.specs.Prelude.{◌≡◌, ◌≢◌, ℕ, ◌+◌, ◌-◌, Bool, true, false, ◌==◌, if◌then◌else◌, List, [], ◌∷◌, ◌++◌, length, take, drop, Result, Ok, codes}
+use Rattle.std.specs.Prelude.{◌≡◌, ◌≢◌, ℕ, ◌+◌, ◌-◌, true, false, List, [], ◌∷◌, ◌++◌, length, take, drop, Ok}
 use Rattle.std.proofs.Common.{inl, inr, refl, sym, ap, ◌∙◌, arith, subst}
 use Rattle.std.proofs.Math.Seq.{drop-append_seam, take-append_seam}
 use Rattle.std.proofs.lemmas.List.{drop-drop}
@@ -7,11 +7,11 @@ use Rattle.std.proofs.lemmas.Bool.{eq-eqb}
 use Rattle.std.proofs.lemmas.Bool.Decides.{eqb_tells}
 use Rattle.ml_token.specs.declared.tokens.Token.{Token}
 use Rattle.ml_token.specs.declared.tokens.TokenKind.{TokenKind}
-use Rattle.ml_token.specs.declared.tokens.TokenKind.TheVariants.{Name, QuotedName, Variable, Number, Punct, End, Eof}
+use Rattle.ml_token.specs.declared.tokens.TokenKind.TheVariants.{Name, Number, Eof}
 use Rattle.ml_token.specs.Tokens.{first_token}
-use Rattle.ml_token.specs.Values.{name_of, text_of, number_of}
+use Rattle.ml_token.specs.Values.{text_of, number_of}
 use Rattle.ml_token.specs.Number.{value_of}
-use Rattle.ml_token.specs.Language.{IsToken, no_gap, HasToken}
+use Rattle.ml_token.specs.Language.{IsToken, no_gap}
 use Rattle.ml_token.proofs.Complete.{token-only}
 use Rattle.ml_reader.specs.Lexemes.{Lexeme, name, number}
 use Rattle.ml_reader.specs.Tokens.{Context, is_tight, first_place, lexeme, one_more, behind, Ends, one_more_token}
@@ -32,7 +32,8 @@ first_is : (v : ℕ) (c : Context) (t : Token) → IsAt v c → t.from ≡ c.to 
 first_is v c t h e = elim (eqb_tells c.tokens 0) [ inl q ↦ rw q.0 (e ∙ h.begun q.1) | inr q ↦ rw q.0 h.first ]
 
 -- behind a token that directly follows
-pub at_next : (v w : ℕ) (c : Context) (t : Token) (names : List (List ℕ × ℕ)) (variables : ℕ) → IsAt v c → t.from ≡ c.to → names ≡ variable_names w → variables ≡ w
+pub at_next : (v w : ℕ) (c : Context) (t : Token) (names : List (List ℕ × ℕ)) (variables : ℕ) → IsAt v c → t.from ≡ c.to → names ≡ variable_names w
+    → variables ≡ w
     → IsAt w (one_more c t names variables)
 at_next v w c t names variables h e n m = record { names = n; variables = m; first = first_is v c t h e; begun = λ z. absurd (omega arith) }
 
@@ -41,9 +42,11 @@ module _ (bytes : List ℕ) where
   abbrev pub EndsAs : ℕ → List ℕ → List Lexeme → Type 0
   EndsAs v bs xs = (c : Context) → IsAt v c → drop c.to bytes ≡ bs → Ends bytes c xs
 
-  pub found_here : (kind : TokenKind) (c : Context) (text rest : List ℕ) → drop c.to bytes ≡ text ++ rest → IsToken kind text rest → first_token bytes c.to ≡ Ok (tight kind c text)
+  pub found_here : (kind : TokenKind) (c : Context) (text rest : List ℕ) → drop c.to bytes ≡ text ++ rest → IsToken kind text rest
+      → first_token bytes c.to ≡ Ok (tight kind c text)
   found_here kind c text rest e is =
-      token-only bytes c.to (tight kind c text) (record { gap = []; text = text; rest = rest; whole = e; before = no_gap; token = is; from = omega arith; to = refl })
+      token-only bytes c.to (tight kind c text)
+      (record { gap = []; text = text; rest = rest; whole = e; before = no_gap; token = is; from = omega arith; to = refl })
 
   pub left_behind : (c : Context) (text rest : List ℕ) → drop c.to bytes ≡ text ++ rest → drop (c.to + length text) bytes ≡ rest
   left_behind c text rest e = sym (drop-drop (length text) c.to bytes) ∙ (ap (λ bs. drop (length text) bs) e ∙ drop-append_seam text rest)
@@ -55,7 +58,8 @@ module _ (bytes : List ℕ) where
       ap (λ n. take n (drop c.to bytes)) size ∙ (ap (λ bs. take (length text) bs) e ∙ take-append_seam text rest)
 
   -- a token and what is left behind it
-  pub a_token_first : (kind : TokenKind) (w : ℕ) (c : Context) (text rest : List ℕ) (x : Lexeme) (ys : List Lexeme) → drop c.to bytes ≡ text ++ rest → IsToken kind text rest → kind ≢ Eof
+  pub a_token_first : (kind : TokenKind) (w : ℕ) (c : Context) (text rest : List ℕ) (x : Lexeme) (ys : List Lexeme) → drop c.to bytes ≡ text ++ rest
+      → IsToken kind text rest → kind ≢ Eof
       → lexeme bytes c (tight kind c text) ≡ x → IsAt w (behind bytes c (tight kind c text)) → (behind bytes c (tight kind c text)).to ≡ c.to + length text
       → EndsAs w rest ys → Ends bytes c (x ∷ ys)
   a_token_first kind w c text rest x ys e is k l h to ends =

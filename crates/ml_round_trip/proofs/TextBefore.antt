@@ -1,5 +1,5 @@
 -- The canonical text before other bytes, bracketed to the right as the tokens are.
-use Rattle.std.specs.Prelude.{◌≡◌, ℕ, Bool, true, false, ℤ, List, [], ◌∷◌, ◌++◌, cond}
+use Rattle.std.specs.Prelude.{◌≡◌, ℕ, Bool, true, false, List, [], ◌∷◌, ◌++◌, cond}
 use Rattle.std.specs.Str.{bytes_eq}
 use Rattle.std.proofs.Common.{refl, sym, ap, ◌∙◌, append_assoc, append-nil}
 use Rattle.ml_term.specs.Tree.{Tree, Trees, variable, integer, atom, compound, no_trees, tree}
@@ -66,17 +66,20 @@ module _ (number : ℕ → ℕ) where
     text_is (atom f) bs = refl
     text_is (compound f ts) bs =
         cond_before (is_cell f ts) (91 ∷ cell_text number ts ++ 93 ∷ []) (atom_text f ++ 40 ∷ joined (texts number ts) ++ 41 ∷ []) bs _ _
-        (in_brackets (cell_text number ts) bs _ (cell_is ts (93 ∷ bs))) (in_parentheses (atom_text f) (joined (texts number ts)) bs _ (arguments_are ts (41 ∷ bs)))
+        (in_brackets (cell_text number ts) bs _ (cell_is ts (93 ∷ bs)))
+        (in_parentheses (atom_text f) (joined (texts number ts)) bs _ (arguments_are ts (41 ∷ bs)))
 
     arguments_are : (ts : Trees) (bs : List ℕ) → joined (texts number ts) ++ bs ≡ arguments_before ts bs
     arguments_are no_trees bs = refl
     arguments_are (tree t ts) bs =
-        ap (λ xs. xs ++ bs) (joined_more t ts) ∙ (append_assoc (text number t) (more_text ts) bs ∙ (ap (λ xs. text number t ++ xs) (more_is ts bs) ∙ text_is t (more_before ts bs)))
+        ap (λ xs. xs ++ bs) (joined_more t ts) ∙
+        (append_assoc (text number t) (more_text ts) bs ∙ (ap (λ xs. text number t ++ xs) (more_is ts bs) ∙ text_is t (more_before ts bs)))
 
     more_is : (ts : Trees) (bs : List ℕ) → more_text ts ++ bs ≡ more_before ts bs
     more_is no_trees bs = refl
     more_is (tree t ts) bs =
-        ap (λ xs. comma ∷ xs) (append_assoc (text number t) (more_text ts) bs ∙ (ap (λ xs. text number t ++ xs) (more_is ts bs) ∙ text_is t (more_before ts bs)))
+        ap (λ xs. comma ∷ xs)
+        (append_assoc (text number t) (more_text ts) bs ∙ (ap (λ xs. text number t ++ xs) (more_is ts bs) ∙ text_is t (more_before ts bs)))
 
     cell_is : (ts : Trees) (bs : List ℕ) → cell_text number ts ++ bs ≡ cell_before ts bs
     cell_is no_trees bs = refl
@@ -91,4 +94,5 @@ module _ (number : ℕ → ℕ) where
     rest_is (atom f) bs = cond_before (bytes_eq f nil) [] (124 ∷ atom_text f) bs _ _ refl refl
     rest_is (compound f ts) bs =
         cond_before (is_cell f ts) (comma ∷ cell_text number ts) (124 ∷ (atom_text f ++ 40 ∷ joined (texts number ts) ++ 41 ∷ [])) bs _ _
-        (ap (λ xs. comma ∷ xs) (cell_is ts bs)) (ap (λ xs. 124 ∷ xs) (in_parentheses (atom_text f) (joined (texts number ts)) bs _ (arguments_are ts (41 ∷ bs))))
+        (ap (λ xs. comma ∷ xs) (cell_is ts bs))
+        (ap (λ xs. 124 ∷ xs) (in_parentheses (atom_text f) (joined (texts number ts)) bs _ (arguments_are ts (41 ∷ bs))))

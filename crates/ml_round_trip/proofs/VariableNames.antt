@@ -1,20 +1,21 @@
 -- The names of variables tell them apart.
-use Rattle.std.specs.Prelude.{◌≡◌, ◌≢◌, ℕ, zero, suc, ◌+◌, ◌^◌, ◌<◌, ◌≤◌, Bool, true, false, ◌&&◌, ◌==◌, if◌then◌else◌, cond, List, [], ◌∷◌, ◌++◌, length, Option, Some, None, codes}
+use Rattle.std.specs.Prelude.{◌≡◌, ◌≢◌, ℕ, zero, suc, ◌+◌, ◌^◌, ◌<◌, ◌≤◌, Bool, true, false, cond, List, [], ◌∷◌, ◌++◌, length, Some, None, codes}
 use Rattle.std.specs.Str.{bytes_eq}
-use Rattle.std.proofs.Common.{inl, inr, refl, sym, ap, ◌∙◌, arith, subst}
+use Rattle.std.proofs.Common.{inl, inr, refl, sym, ap, ◌∙◌, arith}
 use Rattle.std.proofs.lemmas.Bool.Decides.{eqb_tells}
 use Rattle.std.proofs.lemmas.Slice.Eq.{bytes_eq-Decides}
 use Rattle.ml_term.specs.Decimal.{decimal_text}
 use Rattle.ml_reader.specs.Tokens.{find_name, is_anonymous}
 use Rattle.ml_round_trip.specs.ReadBack.{variable_name, variable_names}
-use Rattle.ml_round_trip.proofs.Tests.{cond_cases, same_bytes}
-use Rattle.ml_round_trip.proofs.Digits.{IsDecimal, decimal_is, decimal_apart}
+use Rattle.ml_round_trip.proofs.Tests.{same_bytes}
+use Rattle.ml_round_trip.proofs.Digits.{decimal_is, decimal_apart}
 
 found_first : (ns ms : List (List ℕ × ℕ)) (f : List ℕ) (p : ℕ) → find_name ns f ≡ Some p → find_name (ns ++ ms) f ≡ Some p
 found_first [] ms f p e = absurd (cc)
 found_first (n ∷ ns) ms f p e = by_test (bytes_eq n.0 f) (found_first ns ms f p) e
   where
-    by_test : (b : Bool) → (find_name ns f ≡ Some p → find_name (ns ++ ms) f ≡ Some p) → cond b (Some n.1) (find_name ns f) ≡ Some p → cond b (Some n.1) (find_name (ns ++ ms) f) ≡ Some p
+    by_test : (b : Bool) → (find_name ns f ≡ Some p → find_name (ns ++ ms) f ≡ Some p) → cond b (Some n.1) (find_name ns f) ≡ Some p
+        → cond b (Some n.1) (find_name (ns ++ ms) f) ≡ Some p
     by_test true h e = e
     by_test false h e = h e
 
@@ -22,7 +23,8 @@ found_later : (ns ms : List (List ℕ × ℕ)) (f : List ℕ) → find_name ns f
 found_later [] ms f e = refl
 found_later (n ∷ ns) ms f e = by_test (bytes_eq n.0 f) (found_later ns ms f) e
   where
-    by_test : (b : Bool) → (find_name ns f ≡ None → find_name (ns ++ ms) f ≡ find_name ms f) → cond b (Some n.1) (find_name ns f) ≡ None → cond b (Some n.1) (find_name (ns ++ ms) f) ≡ find_name ms f
+    by_test : (b : Bool) → (find_name ns f ≡ None → find_name (ns ++ ms) f ≡ find_name ms f) → cond b (Some n.1) (find_name ns f) ≡ None
+        → cond b (Some n.1) (find_name (ns ++ ms) f) ≡ find_name ms f
     by_test true h e = absurd (cc)
     by_test false h e = h e
 
@@ -50,8 +52,8 @@ pub found : (v p : ℕ) → p < v → 1 + v < 10 ^ 20 → find_name (variable_na
 found zero p h l = absurd (omega arith)
 found (suc v) p h l = elim (eqb_tells p v) [
   | inl q ↦
-    found_later (variable_names v) ((variable_name v, v) ∷ []) (variable_name p) (not_found v p (omega (arith, q.1)) (omega (arith, q.1)))
-    ∙ (ap (λ b. cond b (Some v) None) ((bytes_eq-Decides (variable_name v) (variable_name p)).1 (ap variable_name (sym q.1))) ∙ ap Some (sym q.1))
+      found_later (variable_names v) ((variable_name v, v) ∷ []) (variable_name p) (not_found v p (omega (arith, q.1)) (omega (arith, q.1)))
+      ∙ (ap (λ b. cond b (Some v) None) ((bytes_eq-Decides (variable_name v) (variable_name p)).1 (ap variable_name (sym q.1))) ∙ ap Some (sym q.1))
   | inr q ↦ found_first (variable_names v) ((variable_name v, v) ∷ []) (variable_name p) p (found v p (omega arith) (omega arith))
 ]
 

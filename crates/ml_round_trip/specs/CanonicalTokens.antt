@@ -1,6 +1,6 @@
 -- The tokens of canonical text, as a recursion on trees that has a case for each case of the text. It knows no bytes; the grammar and the cutting of
 -- a text into tokens know no canonical text.
-use Rattle.std.specs.Prelude.{ℕ, suc, Bool, true, false, not, ℤ, pos, negsuc, List, [], ◌∷◌, cond, codes}
+use Rattle.std.specs.Prelude.{ℕ, suc, true, false, not, ℤ, pos, negsuc, List, ◌∷◌, cond, codes}
 use Rattle.std.specs.Str.{bytes_eq}
 use Rattle.ml_term.specs.Tree.{Tree, Trees, variable, integer, atom, compound, no_trees, tree, variables, firsts, place_in}
 use Rattle.ml_term.specs.Text.{is_bare, is_cell}

@@ -10,7 +10,7 @@ use Rattle.ml_token.specs.Gap.{begins_with}
 use Rattle.ml_token.specs.Tokens.{ends_clause}
 use Rattle.ml_token.specs.Language as language
 use Rattle.ml_token.specs.Language.{StopsAt, IsRun, IsToken}
-use Rattle.ml_token.proofs.Runs.{Each, is_one_of-each}
+use Rattle.ml_token.proofs.Names.{is_one_of-passes}
 use Rattle.ml_term.specs.Tree.{has}
 use Rattle.ml_term.specs.Text as T
 use Rattle.ml_term.specs.Text.{symbols, is_word, opens_comment, is_symbol_name, is_solo, is_bare}
@@ -25,100 +25,58 @@ abbrev pub StopsFirst : List ℕ → Type 0
 StopsFirst [] = ⊥
 StopsFirst (b ∷ bs) = is_stop b ≡ true
 
--- such a byte is no letter, no digit, no symbol character, no quote and no star
-abbrev EndsAll : ℕ → Type 0
-EndsAll b = (is_alphanumeric b ≡ false) × (is_digit b ≡ false) × (is_symbol b ≡ false) × ((b == 39) ≡ false) × ((b == 42) ≡ false)
+not_true : (b : Bool) → not b ≡ true → b ≡ false
+not_true true e = absurd (cc)
+not_true false e = refl
 
-stop_tells : (b : ℕ) → is_stop b ≡ true → EndsAll b
-stop_tells b e =
-    is_one_of-each EndsAll (codes ",)]|( ") b e (
-      (refl, refl, refl, refl, refl),
-      (
-        (refl, refl, refl, refl, refl),
-        (
-          (refl, refl, refl, refl, refl),
-          (
-            (refl, refl, refl, refl, refl),
-            (
-              (refl, refl, refl, refl, refl),
-              ((refl, refl, refl, refl, refl), tt),
-            ),
-          ),
-        ),
-      ),
-    )
+-- what fails at each of these bytes fails at the first one
+stop_fails : (test : ℕ → Bool) → list_all (λ b. not (test b)) (codes ",)]|( ") ≡ true → (b : ℕ) → is_stop b ≡ true → test b ≡ false
+stop_fails test all b h = not_true (test b) (is_one_of-passes (λ b. not (test b)) (codes ",)]|( ") b h all)
 
 pub no_letter : (rest : List ℕ) → StopsFirst rest → StopsAt is_alphanumeric rest
 no_letter [] h = absurd h
-no_letter (b ∷ bs) h = (stop_tells b h).0
+no_letter (b ∷ bs) h = stop_fails is_alphanumeric refl b h
 
 pub no_digit : (rest : List ℕ) → StopsFirst rest → StopsAt is_digit rest
 no_digit [] h = absurd h
-no_digit (b ∷ bs) h = (stop_tells b h).1
+no_digit (b ∷ bs) h = stop_fails is_digit refl b h
 
 pub no_symbol : (rest : List ℕ) → StopsFirst rest → StopsAt is_symbol rest
 no_symbol [] h = absurd h
-no_symbol (b ∷ bs) h = (stop_tells b h).2
+no_symbol (b ∷ bs) h = stop_fails is_symbol refl b h
 
 pub no_quote : (rest : List ℕ) → StopsFirst rest → begins_with 39 rest ≡ false
 no_quote [] h = absurd h
-no_quote (b ∷ bs) h = (stop_tells b h).3
+no_quote (b ∷ bs) h = stop_fails (λ b. b == 39) refl b h
 
 no_star : (rest : List ℕ) → StopsFirst rest → begins_with 42 rest ≡ false
 no_star [] h = absurd h
-no_star (b ∷ bs) h = (stop_tells b h).4
+no_star (b ∷ bs) h = stop_fails (λ b. b == 42) refl b h
 
 and_false : (a b : Bool) → b ≡ false → (a && b) ≡ false
 and_false true b e = e
 and_false false b e = refl
 
-not_true : (b : Bool) → not b ≡ true → b ≡ false
-not_true true e = absurd (cc)
-not_true false e = refl
-
--- what each of some numbers passes, each number among them passes
-has-each : (P : ℕ → Type 0) (n : ℕ) (ms : List ℕ) → has n ms ≡ true → Each P ms → P n
-has-each P n [] h each = absurd (cc)
-has-each P n (m ∷ ms) h each = by_test (m == n) refl h (λ k. has-each P n ms k each.1)
+-- a test that some numbers pass
+has-passes : (test : ℕ → Bool) (n : ℕ) (ms : List ℕ) → has n ms ≡ true → list_all test ms ≡ true → test n ≡ true
+has-passes test n [] h all = absurd (cc)
+has-passes test n (m ∷ ms) h all = by_test (m == n) refl h (λ k. has-passes test n ms k (both (test m) (list_all test ms) all).1)
   where
-    by_test : (b : Bool) → (m == n) ≡ b → (b || has n ms) ≡ true → (has n ms ≡ true → P n) → P n
-    by_test true e h rest = subst P (eqb-true m n e) each.0
+    by_test : (b : Bool) → (m == n) ≡ b → (b || has n ms) ≡ true → (has n ms ≡ true → test n ≡ true) → test n ≡ true
+    by_test true e h rest = subst (λ n. test n ≡ true) (eqb-true m n e) (both (test m) (list_all test ms) all).0
     by_test false e h rest = rest h
 
--- a symbol character neither ends a clause behind a full stop nor is it missing from the other list of them
-abbrev IsSymbol : ℕ → Type 0
-IsSymbol b = (is_symbol b ≡ true) × ((is_layout b || b == 37) ≡ false)
+-- both lists of symbol characters are one
+same_symbol : (b : ℕ) → T.is_symbol b ≡ true → is_symbol b ≡ true
+same_symbol b e = has-passes is_symbol b symbols e refl
 
-symbol_tells : (b : ℕ) → T.is_symbol b ≡ true → IsSymbol b
-symbol_tells b e = has-each IsSymbol b symbols e (
-  (refl, refl),
-  (
-    (refl, refl),
-    (
-      (refl, refl),
-      (
-        (refl, refl),
-        (
-          (refl, refl),
-          (
-            (refl, refl),
-            (
-              (refl, refl),
-              (
-                (refl, refl),
-                ((refl, refl), ((refl, refl), ((refl, refl), ((refl, refl), ((refl, refl), ((refl, refl), ((refl, refl), ((refl, refl), ((refl, refl), tt))))))))),
-              ),
-            ),
-          ),
-        ),
-      ),
-    ),
-  ),
-)
+-- a full stop before a symbol character ends no clause
+symbol_behind : (b : ℕ) → T.is_symbol b ≡ true → (is_layout b || b == 37) ≡ false
+symbol_behind b e = not_true (is_layout b || b == 37) (has-passes (λ b. not (is_layout b || b == 37)) b symbols e refl)
 
 all_symbols : (bs : List ℕ) → list_all T.is_symbol bs ≡ true → list_all is_symbol bs ≡ true
 all_symbols [] e = refl
-all_symbols (b ∷ bs) e = let h = both (T.is_symbol b) (list_all T.is_symbol bs) e in rw ((symbol_tells b h.0).0, all_symbols bs h.1) refl
+all_symbols (b ∷ bs) e = let h = both (T.is_symbol b) (list_all T.is_symbol bs) e in rw (same_symbol b h.0, all_symbols bs h.1) refl
 
 pub word_token : (f rest : List ℕ) → is_word f ≡ true → length f ≤ LONGEST_NAME → StopsFirst rest → IsToken Name f rest
 word_token [] rest e short stops = absurd (cc)
@@ -135,7 +93,7 @@ no_end : (b : ℕ) (bs rest : List ℕ) → list_all T.is_symbol (b ∷ bs) ≡ 
 no_end b [] rest all other = first_false (b == 46) (ends_clause rest) other
 no_end b (c ∷ cs) rest all other =
     let h = both (T.is_symbol b) (T.is_symbol c && list_all T.is_symbol cs) all in
-    and_false (b == 46) (is_layout c || c == 37) (symbol_tells c (both (T.is_symbol c) (list_all T.is_symbol cs) h.1).0).1
+    and_false (b == 46) (is_layout c || c == 37) (symbol_behind c (both (T.is_symbol c) (list_all T.is_symbol cs) h.1).0)
 
 no_comment : (b : ℕ) (bs rest : List ℕ) → opens_comment (b ∷ bs) ≡ false → StopsFirst rest → (b == 47 && begins_with 42 (bs ++ rest)) ≡ false
 no_comment b [] rest other stops = and_false (b == 47) (begins_with 42 rest) (no_star rest stops)
@@ -147,7 +105,7 @@ symbol_token (b ∷ bs) rest e short stops =
     let h = both (list_all T.is_symbol (b ∷ bs) && not (bytes_eq (b ∷ bs) (codes "."))) (not (opens_comment (b ∷ bs))) e in
     let k = both (list_all T.is_symbol (b ∷ bs)) (not (bytes_eq (b ∷ bs) (codes "."))) h.0 in
     let all = both (T.is_symbol b) (list_all T.is_symbol bs) k.0 in
-    language.symbol_name (symbol_tells b all.0).0 (record { all = all_symbols bs all.1; longest = no_symbol rest stops })
+    language.symbol_name (same_symbol b all.0) (record { all = all_symbols bs all.1; longest = no_symbol rest stops })
     (no_end b bs rest k.0 (not_true (bytes_eq (b ∷ bs) (codes ".")) k.1)) (no_comment b bs rest (not_true (opens_comment (b ∷ bs)) h.1) stops) (omega arith)
 
 -- the solo names that are one token

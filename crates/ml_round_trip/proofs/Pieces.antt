@@ -10,7 +10,7 @@ use Rattle.ml_token.specs.declared.tokens.TokenKind.TheVariants.{Name, Variable,
 use Rattle.ml_token.specs.Bytes.{is_digit, is_alphanumeric, is_symbol}
 use Rattle.ml_token.specs.Language as language
 use Rattle.ml_token.specs.Language.{StopsAt, IsRun, IsToken}
-use Rattle.ml_token.proofs.Runs.{is_one_of-each}
+use Rattle.ml_token.proofs.Names.{is_one_of-passes}
 use Rattle.ml_term.specs.Names.{is_name_byte, is_name}
 use Rattle.ml_term.specs.Decimal.{decimal_text, integer_text}
 use Rattle.ml_term.specs.Valid.{is_in_range}
@@ -31,10 +31,7 @@ digit_no_symbol : (b : ℕ) → is_digit b ≡ true → is_symbol b ≡ false
 digit_no_symbol b e = by_test (is_symbol b) refl
   where
     by_test : (k : Bool) → is_symbol b ≡ k → k ≡ false
-    by_test true h =
-        let d : is_digit b ≡ false = is_one_of-each (λ x. is_digit x ≡ false) (codes "+-*/\\^<>=~:.?@#&$") b h
-        (refl, (refl, (refl, (refl, (refl, (refl, (refl, (refl, (refl, (refl, (refl, (refl, (refl, (refl, (refl, (refl, (refl, tt))))))))))))))))) in
-        cc
+    by_test true h = absurd (let d : not (is_digit b) ≡ true = is_one_of-passes (λ x. not (is_digit x)) (codes "+-*/\\^<>=~:.?@#&$") b h refl in cc)
     by_test false h = refl
 
 digit_letter : (b : ℕ) → is_digit b ≡ true → is_alphanumeric b ≡ true

@@ -33,7 +33,7 @@ use Rattle.ml_round_trip.proofs.NamedTokens.{the_last}
 use Rattle.ml_round_trip.proofs.InOrder.{counted, AreFit, counted_few}
 use Rattle.ml_round_trip.proofs.FirstPlaces.{counted_all}
 use Rattle.ml_round_trip.proofs.Cut.{tree_ends}
-use Rattle.ml_round_trip.proofs.FewTokens.{last_few, tree_few}
+use Rattle.ml_round_trip.proofs.FewTokens.{AreFew, last_few, tree_few}
 use Rattle.ml_round_trip.proofs.StaysValid.{stays_valid}
 
 mutual
@@ -75,9 +75,6 @@ module _ (t : Tree) (valid : is_valid t ≡ true) (small : nodes t ≤ 4096) whe
   abbrev place : ℕ → ℕ
   place n = place_in (firsts (variables t)) n
 
-  bytes : List ℕ
-  bytes = text_of t [] ++ stop
-
   fit : AreFit place 0 (variables t)
   fit = record { order = (counted_all (variables t)).order; few = omega (arith, counted_few place 0 (variables t), few_variables t) }
 
@@ -115,24 +112,19 @@ module _ (t : Tree) (valid : is_valid t ≡ true) (small : nodes t ≤ 4096) whe
 
   below : (n : ℕ) → In n (variables t) → 0 + place n < 2 ^ 32
   below n i =
-      omega (
-        arith,
-        place_below (firsts (variables t)) n (in_firsts n (variables t) i),
-        (counted_all (variables t)).all,
-        counted_few place 0
-            (variables t),
-        few_variables t,
-      )
+      let within : place_in (firsts (variables t)) n < length (firsts (variables t)) = place_below (firsts (variables t)) n (in_firsts n (variables t) i) in
+      omega (arith, within, (counted_all (variables t)).all, counted_few place 0 (variables t), few_variables t)
 
   pub read_within_limits : text_levels t ≤ MOST_LEVELS → IsRead (text_of t [] ++ stop) (read_back t ∷ [])
   read_within_limits few =
+      let few_tokens : AreFew 0 (tokens_of t (end (mark_of t) ∷ [])) =
+      tree_few place t 0 16383 (end (mark_of t) ∷ []) valid (omega arith) (omega arith) (last_few 16383 (mark_of t) (omega arith)) in
       record {
         tokens = tokens_of t (end (mark_of t) ∷ []);
         whole = cut_whole;
         text = one_clause.derivation;
         levels = omega (arith, one_clause.depth);
-        short = (tree_few place t 0 16383 (end (mark_of t) ∷ []) valid (omega arith) (omega arith) (last_few 16383 (mark_of t) (omega arith))).short 0
-            (omega arith);
+        short = few_tokens.short 0 (omega arith);
         valid = both_hold (is_valid (renamed 0 t)) true (stays_valid (λ n. 0 + place n) t valid below) refl;
         small = both_hold (nat_le (nodes (renamed 0 t)) MOST_NODES) true (le-leb (nodes (renamed 0 t)) MOST_NODES (omega (arith, renamed_nodes 0 t))) refl;
       }

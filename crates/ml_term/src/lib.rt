@@ -9,6 +9,7 @@ pub mod bytes_laws;
 #[cfg(test)]
 mod bytes_tests;
 mod canonical;
+mod canonical_size;
 mod code;
 pub mod decimal_laws;
 mod declaration;
@@ -34,8 +35,9 @@ pub mod worked_rows;
 
 pub use args::ArgsOf;
 pub use canonical::canonical_cmp;
+pub use canonical_size::canonical_len_up_to;
 pub use code::code_word;
-pub use declaration::{Decl, Keys, Kind, Pred};
+pub use declaration::{Decl, Keys, Kind, Pred, are_keys};
 pub use key::{argument_at, arguments_of, key_cmp};
 pub use limits::{
     INTEGER_OFFSET, MOST_ARGUMENTS, MOST_CODED_LENGTH, MOST_KEYS, MOST_NAME_BYTES, MOST_NODES,

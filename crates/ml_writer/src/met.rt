@@ -41,8 +41,8 @@ impl Met {
         ensures number { IfOk result (λ n. n ≡ number_in (firsts (self.old ++ variable ∷ [])) variable) }
         ensures met { OnOk result (self.new ≡ firsts (self.old ++ variable ∷ [])) }
     {
-        if let Some(number) = self.numbers.get(&variable) {
-            return Ok(*number);
+        if let Some(number) = self.numbers.get(&variable).copied() {
+            return Ok(number);
         }
         let number = self.variables.len() as u64 + 1;
         self.variables.push(variable)?;

@@ -1,5 +1,6 @@
 //! The text of names.
 ghost use Rattle.std.specs.Prelude.{◌≡◌, ◌++◌, OnOk};
+ghost use Rattle.std.specs.List.{list_all};
 ghost use Rattle.ml_term.specs.Text.{atom_text, is_alphanumeric, is_bare, is_lowercase, is_solo, is_symbol, is_symbol_name, is_word, opens_comment, quoted_byte};
 
 use crate::draft::Draft;
@@ -29,13 +30,27 @@ fn is_symbol(b: u8) -> bool
     b"+-*/\\^<>=~:.?@#&$".contains(&b)
 }
 
+/// Whether each byte is a letter, a digit or `_`.
+fn are_alphanumeric(bytes: &[u8]) -> bool
+    ensures { result ≡ list_all is_alphanumeric bytes.now }
+{
+    bytes.iter().all(|b| is_alphanumeric(*b))
+}
+
+/// Whether each byte is a symbol character.
+fn are_symbols(bytes: &[u8]) -> bool
+    ensures { result ≡ list_all is_symbol bytes.now }
+{
+    bytes.iter().all(|b| is_symbol(*b))
+}
+
 /// Whether a name is a small letter followed by letters, digits and `_`.
 fn is_word(name: &[u8]) -> bool
     ensures { result ≡ is_word name.now }
 {
-    match name.split_first() {
-        None => false,
-        Some((b, rest)) => is_lowercase(*b) && rest.iter().all(|c| is_alphanumeric(*c)),
+    match name {
+        [] => false,
+        [b, rest @ ..] => is_lowercase(*b) && are_alphanumeric(rest),
     }
 }
 
@@ -53,10 +68,10 @@ fn opens_comment(name: &[u8]) -> bool
 fn is_symbol_name(name: &[u8]) -> bool
     ensures { result ≡ is_symbol_name name.now }
 {
-    !name.is_empty()
-        && name.iter().all(|b| is_symbol(*b))
-        && name != b".".as_slice()
-        && !opens_comment(name)
+    match name {
+        [] => false,
+        _ => are_symbols(name) && name != b".".as_slice() && !opens_comment(name),
+    }
 }
 
 /// Whether a name is one of those that stand for themselves.

@@ -1,6 +1,6 @@
 -- The first places of numbers in a list, and in a longer one.
 use Rattle.std.specs.Prelude.{◌≡◌, ◌≢◌, ℕ, ◌+◌, true, false, Bool, ◌||◌, ◌==◌, cond, List, [], ◌∷◌, ◌++◌, length}
-use Rattle.std.proofs.Common.{inl, inr, refl, sym, ap, ◌∙◌, arith}
+use Rattle.std.proofs.Common.{inl, inr, refl, sym, ap, ◌∙◌, subst, arith}
 use Rattle.std.proofs.lemmas.Bool.Decides.{eqb_tells}
 use Rattle.ml_term.specs.Tree.{has, firsts, without, place_in}
 use Rattle.ml_term.specs.Text.{number_in}
@@ -29,9 +29,9 @@ firsts-append : (xs ys : List ℕ) → firsts (xs ++ ys) ≡ firsts xs ++ withou
 firsts-append [] ys = refl
 firsts-append (x ∷ xs) ys = ap (λ z. x ∷ without x z) (firsts-append xs ys) ∙ ap (λ z. x ∷ z) (without-append x (firsts xs) (without_all xs (firsts ys)))
 
-place_in_front : (n : ℕ) (xs ys : List ℕ) → In n xs → place_in (xs ++ ys) n ≡ place_in xs n
+pub place_in_front : (n : ℕ) (xs ys : List ℕ) → In n xs → place_in (xs ++ ys) n ≡ place_in xs n
 place_in_front n [] ys h = absurd (cc h)
-place_in_front n (x ∷ xs) ys h = elim (eqb_tells x n) [ inl q ↦ rw (q.0, q.0) refl | inr q ↦ rw (q.0, q.0) (ap (λ k. 1 + k) (place_in_front n xs ys (rw q.0 at h))) ]
+place_in_front n (x ∷ xs) ys h = elim (eqb_tells x n) [ inl q ↦ rw q.0 refl | inr q ↦ rw q.0 (ap (λ k. 1 + k) (place_in_front n xs ys (rw q.0 at h))) ]
 
 -- a number that a list has keeps its place, however the list goes on
 pub number_stays : (n : ℕ) (xs ys : List ℕ) → In n xs → number_in (firsts (xs ++ ys)) n ≡ number_in (firsts xs) n
@@ -41,8 +41,8 @@ number_stays n xs ys h =
 firsts-without : (n : ℕ) (xs : List ℕ) → firsts (without n xs) ≡ without n (firsts xs)
 firsts-without n [] = refl
 firsts-without n (x ∷ xs) = elim (eqb_tells x n) [
-  | inl q ↦ rw (q.0, q.1, firsts-without n xs) (sym (without_twice n (firsts xs)))
-  | inr q ↦ rw (q.0, q.0, firsts-without n xs) (ap (λ z. x ∷ z) (without_swapped x n (firsts xs)))
+  | inl q ↦ rw q.0 (subst (λ z. firsts (without n xs) ≡ without n (without z (firsts xs))) (sym q.1) (firsts-without n xs ∙ sym (without_twice n (firsts xs))))
+  | inr q ↦ rw q.0 (ap (λ z. x ∷ z) (ap (without x) (firsts-without n xs) ∙ without_swapped x n (firsts xs)))
 ]
 
 pub firsts_twice : (xs : List ℕ) → firsts (firsts xs) ≡ firsts xs
@@ -52,7 +52,7 @@ firsts_twice (x ∷ xs) = ap (λ z. x ∷ without x z) (firsts-without x (firsts
 without_all_without : (n : ℕ) (xs ys : List ℕ) → without n (without_all (without n xs) ys) ≡ without n (without_all xs ys)
 without_all_without n [] ys = refl
 without_all_without n (x ∷ xs) ys = elim (eqb_tells x n) [
-  | inl q ↦ rw (q.0, q.1) (without_all_without n xs ys ∙ sym (without_twice n (without_all xs ys)))
+  | inl q ↦ rw q.0 (subst (λ z. without n (without_all (without n xs) ys) ≡ without n (without z (without_all xs ys))) (sym q.1) (without_all_without n xs ys ∙ sym (without_twice n (without_all xs ys))))
   | inr q ↦ rw q.0 (without_swapped n x (without_all (without n xs) ys) ∙ (ap (without x) (without_all_without n xs ys) ∙ without_swapped x n (without_all xs ys)))
 ]
 
@@ -71,5 +71,5 @@ without_all_one : (n : ℕ) (xs : List ℕ) → without_all xs (n ∷ []) ≡ co
 without_all_one n [] = refl
 without_all_one n (x ∷ xs) = ap (without x) (without_all_one n xs) ∙ grind (arith, eqb_tells x n, eqb_tells n x)
 
-firsts_one_more : (n : ℕ) (xs : List ℕ) → firsts (xs ++ n ∷ []) ≡ firsts xs ++ cond (has n xs) [] (n ∷ [])
+pub firsts_one_more : (n : ℕ) (xs : List ℕ) → firsts (xs ++ n ∷ []) ≡ firsts xs ++ cond (has n xs) [] (n ∷ [])
 firsts_one_more n xs = firsts-append xs (n ∷ []) ∙ ap (λ z. firsts xs ++ z) (without_all_one n xs)

@@ -1,6 +1,6 @@
 //! The variables that a line met, and the number with which each is written.
-ghost use Rattle.std.specs.Prelude.{◌≡◌, [], ◌∷◌, ◌++◌, OnOk, IfOk};
-ghost use Rattle.ml_term.specs.Tree.{firsts};
+ghost use Rattle.std.specs.Prelude.{◌≡◌, false, [], ◌∷◌, ◌++◌, OnOk, IfOk};
+ghost use Rattle.ml_term.specs.Tree.{firsts, has};
 ghost use Rattle.ml_term.specs.Text.{number_in};
 
 use std::alloc::{AllocError, Global};
@@ -41,9 +41,18 @@ impl Met {
         ensures number { IfOk result (λ n. n ≡ number_in (firsts (self.old ++ variable ∷ [])) variable) }
         ensures met { OnOk result (self.new ≡ firsts (self.old ++ variable ∷ [])) }
     {
-        if let Some(number) = self.numbers.get(&variable).copied() {
-            return Ok(number);
+        match self.numbers.get(&variable).copied() {
+            Some(number) => Ok(number),
+            None => self.add(variable),
         }
+    }
+
+    /// Gives a variable that the line hasn't met the next number.
+    fn add(&mut self, variable: u32) -> Result<u64, AllocError>
+        requires { has variable self.old ≡ false }
+        ensures number { IfOk result (λ n. n ≡ number_in (firsts (self.old ++ variable ∷ [])) variable) }
+        ensures met { OnOk result (self.new ≡ firsts (self.old ++ variable ∷ [])) }
+    {
         let number = self.variables.len() as u64 + 1;
         self.variables.push(variable)?;
         match self.numbers.insert(variable, number) {

@@ -1,2 +1,4 @@
 pub mod FirstPlaces
 pub mod MetNumbers
+pub mod Texts
+pub mod Results

@@ -3,7 +3,7 @@
 //! `term_text`: contracts see the finished lines, the text of a line that isn't finished, and the number of answer bytes.
 //! What carries it: all text is put behind what stands in one list of bytes, and a text that is refused is taken off its end again. A table of the
 //! variables that a line met says with which number each is written.
-#![tactic(auto)]
+#![tactic(auto, using(ml_term::proofs::Sizes::nodes_above_zero, ml_term::proofs::Sizes::arity_of_trees))]
 
 mod draft;
 pub mod laws;

@@ -114,7 +114,7 @@ fn put_bindings(bindings: &[(Name, Term)], met: &mut Met, out: &mut Draft) -> Re
 fn put_binding(binding: &(Name, Term), met: &mut Met, out: &mut Draft) -> Result<(), AllocError>
     ensures kept { out.new.before ≡ out.old.before }
     ensures text { OnOk result (out.new.text ≡ out.old.text ++ (binding.now.0 ++ codes " = " ++ text_of (seen binding.now.1) met.old)) }
-    ensures met { OnOk result (met.new ≡ firsts (met.old ++ variables (seen binding.now.1))) }
+    ensures met { OnOk result (MeetTheSame met.new (met.old ++ variables (seen binding.now.1))) }
 {
     let (name, term) = binding;
     out.put(name.as_slice())?;

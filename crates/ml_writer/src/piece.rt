@@ -2,9 +2,10 @@
 ghost use Rattle.std.specs.Prelude.{◌≡◌, ◌≤◌, ◌<◌, ◌∷◌, [], ◌++◌, length, map, codes, IfOk, OnOk, OnErr, IsErrOf};
 ghost use Rattle.ml_term.specs.Seen.{seen};
 ghost use Rattle.ml_term.specs.Text.{text_of};
-ghost use Rattle.ml_term.specs.Tree.{firsts, variables};
+ghost use Rattle.ml_term.specs.Tree.{variables};
 ghost use Rattle.ml_search.specs.Session.{bindings_text};
 ghost use Rattle.ml_writer.specs.AnswerText.{bindings_seen, names_of, terms_of};
+ghost use Rattle.ml_writer.specs.Parts.{MeetTheSame};
 ghost use Rattle.ml_writer.specs.PieceText.{piece_text};
 
 use crate::draft::Draft;

@@ -12,6 +12,7 @@ use Rattle.ml_term.specs.Text.{text_of, is_cell, comma, atom_text}
 use Rattle.ml_term.proofs.Decimals.{signed_decimal_is_text}
 use Rattle.ml_term.proofs.Views.{seen_integer, seen_compound}
 use Rattle.ml_writer.specs.Parts.{arguments_text, elements_text, tail_text}
+use Rattle.ml_writer.proofs.Appended.{two_parts, three_parts}
 use Rattle.ml_writer.proofs.Texts.{one_argument, more_arguments, same_text, same_arguments, same_tail, met_both, list_text, compound_in_parts, list_tail, compound_tail}
 use Rattle.ml_writer.proofs.terms.+put_term.Goals as goal
 
@@ -63,14 +64,6 @@ put_arguments-returns-then-is_empty-clause-text t c =
     let is : c.args.args.now ≡ c.in-Some.first.now ∷ c.in-Some.rest.now = search rules in
     let none : length c.in-Some.rest.now ≡ 0 = search rules in
     c.in_ok-put_term.ensures.text ∙ ap (λ z. c.args.out.now.text ++ z) (sym (arguments_of_one _ _ _ c.args.met.now is none))
-
--- parts, one behind another
-two_parts : (start one two a b : List ℕ) → one ≡ start ++ a → two ≡ one ++ b → two ≡ start ++ (a ++ b)
-two_parts start one two a b e f = f ∙ (ap (λ z. z ++ b) e ∙ append_assoc start a b)
-
-three_parts : (start one two three a b d : List ℕ) → one ≡ start ++ a → two ≡ one ++ b → three ≡ two ++ d → three ≡ start ++ (a ++ (b ++ d))
-three_parts start one two three a b d e f g =
-    g ∙ (ap (λ z. z ++ d) (f ∙ ap (λ z. z ++ b) e) ∙ (append_assoc (start ++ a) b d ∙ append_assoc start a (b ++ d)))
 
 pub put_arguments-returns-clause-text : goal.put_arguments-returns-clause-text
 put_arguments-returns-clause-text t c =

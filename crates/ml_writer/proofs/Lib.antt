@@ -4,3 +4,4 @@ pub mod Texts
 pub mod Results
 pub mod Appended
 pub mod Bindings
+pub mod Cuts

@@ -1,23 +1,16 @@
 -- The text of an answer's bindings, one after another.
-use Rattle.std.specs.Prelude.{◌≡◌, ℕ, ◌≤◌, List, [], ◌∷◌, ◌++◌, length, map, codes}
-use Rattle.std.proofs.Common.{refl, sym, ap, ◌∙◌, arith, append_assoc}
+use Rattle.std.specs.Prelude.{◌≡◌, ℕ, ◌≤◌, List, [], ◌∷◌, ◌++◌, length, map, take, codes}
+use Rattle.std.proofs.Common.{refl, sym, ap, ◌∙◌, append_assoc, append-nil}
+use Rattle.std.specs.List.{flat_map}
+use Rattle.std.proofs.lemmas.Grind.{flat_map-append}
 use Rattle.ml_term.specs.Tree.{Tree, variables, firsts}
 use Rattle.ml_term.specs.Text.{text_of}
 use Rattle.ml_term.specs.Seen.{seen}
 use Rattle.ml_term.specs.declared.term.Term.{Term}
 use Rattle.ml_search.specs.Session.{bindings_text, line}
 use Rattle.ml_writer.specs.AnswerText.{Bindings, names_of, terms_of, line_of_answer, bindings_seen}
-use Rattle.ml_writer.proofs.Texts.{same_text, same_after}
-
--- what was met counts by its first places
-same_bindings : (es : List (List ℕ × ℕ)) (ts : List Tree) (met others : List ℕ) → firsts met ≡ firsts others → bindings_text es ts met ≡ bindings_text es ts others
-same_bindings [] ts met others e = refl
-same_bindings (b ∷ []) [] met others e = refl
-same_bindings (b ∷ []) (t ∷ ts) met others e = ap (λ z. b.0 ++ codes " = " ++ z) (same_text t met others e)
-same_bindings (b ∷ d ∷ es) [] met others e = refl
-same_bindings (b ∷ d ∷ es) (t ∷ ts) met others e =
-    ap (λ z. b.0 ++ codes " = " ++ z ++ codes ", " ++ bindings_text (d ∷ es) ts (met ++ variables t)) (same_text t met others e)
-    ∙ ap (λ z. b.0 ++ codes " = " ++ text_of t others ++ codes ", " ++ z) (same_bindings (d ∷ es) ts (met ++ variables t) (others ++ variables t) (same_after met others (variables t) e))
+use Rattle.ml_writer.proofs.Appended.{three_parts}
+use Rattle.ml_writer.proofs.Texts.{same_text, met_both}
 
 -- the text of some bindings of the code
 abbrev pub text_of_bindings : List (List ℕ × Term) → List ℕ → List ℕ
@@ -26,12 +19,46 @@ text_of_bindings bs met = bindings_text (names_of (bindings_seen bs)) (terms_of 
 abbrev pub text_of_binding : List ℕ × Term → List ℕ → List ℕ
 text_of_binding b met = b.0 ++ codes " = " ++ text_of (seen b.1) met
 
-pub more_bindings : (bs rest : List (List ℕ × Term)) (b : List ℕ × Term) (met one : List ℕ) → bs ≡ b ∷ rest → 1 ≤ length rest → firsts one ≡ firsts (met ++ variables (seen b.1))
-    → text_of_binding b met ++ (codes ", " ++ text_of_bindings rest one) ≡ text_of_bindings bs met
-more_bindings bs [] b met one is some same = absurd (omega arith)
-more_bindings bs (d ∷ rest) b met one is some same =
-    ap (λ z. text_of_binding b met ++ (codes ", " ++ z)) (same_bindings (names_of (bindings_seen (d ∷ rest))) (terms_of (bindings_seen (d ∷ rest))) one (met ++ variables (seen b.1)) same)
-    ∙ (sym (append_assoc (text_of_binding b met) (codes ", ") (text_of_bindings (d ∷ rest) (met ++ variables (seen b.1)))) ∙ ap (λ z. text_of_bindings z met) (sym is))
+-- the variables that they meet
+abbrev pub variables_of_bindings : List (List ℕ × Term) → List ℕ
+variables_of_bindings = flat_map (λ b. variables (seen b.1))
+
+-- one binding more
+last_binding : (b : List ℕ × Term) (bs : List (List ℕ × Term)) (d : List ℕ × Term) (met : List ℕ)
+    → text_of_bindings ((b ∷ bs) ++ d ∷ []) met ≡ text_of_bindings (b ∷ bs) met ++ (codes ", " ++ text_of_binding d (met ++ variables_of_bindings (b ∷ bs)))
+last_binding b [] d met =
+    append_assoc (text_of_binding b met) (codes ", ") (text_of_binding d (met ++ variables (seen b.1)))
+    ∙ ap (λ z. text_of_binding b met ++ (codes ", " ++ text_of_binding d (met ++ z))) (sym (append-nil (variables (seen b.1))))
+last_binding b (e ∷ bs) d met =
+    let others = met ++ variables (seen b.1) in
+    let front = text_of_binding b met ++ codes ", " in
+    ap (λ z. front ++ z) (last_binding e bs d others)
+    ∙ (sym (append_assoc front (text_of_bindings (e ∷ bs) others) (codes ", " ++ text_of_binding d (others ++ variables_of_bindings (e ∷ bs))))
+    ∙ ap (λ z. (front ++ text_of_bindings (e ∷ bs) others) ++ (codes ", " ++ text_of_binding d z)) (append_assoc met (variables (seen b.1)) (variables_of_bindings (e ∷ bs))))
+
+-- what the loop over bindings keeps, of those that were put
+pub record ArePut (start text met found : List ℕ) (bs : List (List ℕ × Term)) : Type 0 where
+  pub text_is : text ≡ start ++ text_of_bindings bs met
+  pub met_is : firsts found ≡ firsts (met ++ variables_of_bindings bs)
+
+pub first_put : (start text met found : List ℕ) (b : List ℕ × Term) → text ≡ start ++ text_of_binding b met → firsts found ≡ firsts (met ++ variables (seen b.1)) → ArePut start text met found (b ∷ [])
+first_put start text met found b e f = record { text_is = e; met_is = f ∙ ap (λ z. firsts (met ++ z)) (sym (append-nil (variables (seen b.1)))) }
+
+pub next_put : (start text between more met found further : List ℕ) (b : List ℕ × Term) (bs : List (List ℕ × Term)) (d : List ℕ × Term) → ArePut start text met found (b ∷ bs)
+    → between ≡ text ++ codes ", " → more ≡ between ++ text_of_binding d found → firsts further ≡ firsts (found ++ variables (seen d.1)) → ArePut start more met further (b ∷ (bs ++ d ∷ []))
+next_put start text between more met found further b bs d put e f g = record {
+  text_is = three_parts start text between more (text_of_bindings (b ∷ bs) met) (codes ", ") (text_of_binding d found) put.text_is e f
+      ∙ ap (λ z. start ++ z) (ap (λ z. text_of_bindings (b ∷ bs) met ++ (codes ", " ++ (d.0 ++ codes " = " ++ z))) (same_text (seen d.1) found (met ++ variables_of_bindings (b ∷ bs)) put.met_is)
+      ∙ sym (last_binding b bs d met));
+  met_is = met_both met found further (variables_of_bindings (b ∷ bs)) (variables (seen d.1)) put.met_is g
+      ∙ ap (λ z. firsts (met ++ z)) (ap (λ z. variables_of_bindings (b ∷ bs) ++ z) (sym (append-nil (variables (seen d.1)))) ∙ sym (flat_map-append (λ b. variables (seen b.1)) (b ∷ bs) (d ∷ [])));
+}
+
+-- the first of some bindings is put, and so many behind it
+pub record SomeArePut (start text met found : List ℕ) (bs rest : List (List ℕ × Term)) (i : ℕ) : Type 0 where
+  pub first : List ℕ × Term
+  pub are : bs ≡ first ∷ rest
+  pub put : ArePut start text met found (first ∷ take i rest)
 
 -- only the names count
 by_names : (es ds : List (List ℕ × ℕ)) (ts : List Tree) (met : List ℕ) → map (λ e. e.0) es ≡ map (λ d. d.0) ds → bindings_text es ts met ≡ bindings_text ds ts met

@@ -26,8 +26,10 @@ mutual
 
   cell_alike : (f g : ℕ → ℕ) (ts : Trees) → ((n : ℕ) → In n (variables_of ts) → f n ≡ g n) → cell_text f ts ≡ cell_text g ts
   cell_alike f g (tree h (tree t no_trees)) same =
-      rw (text_alike f g h (λ n i. same n (in_left n (variables h) (variables t ++ []) i)),
-      rest_alike f g t (λ n i. same n (in_right n (variables h) (variables t ++ []) (in_left n (variables t) [] i)))) refl
+      rw (
+        text_alike f g h (λ n i. same n (in_left n (variables h) (variables t ++ []) i)),
+        rest_alike f g t (λ n i. same n (in_right n (variables h) (variables t ++ []) (in_left n (variables t) [] i))),
+      ) refl
   cell_alike f g no_trees same = refl
   cell_alike f g (tree h no_trees) same = refl
   cell_alike f g (tree h (tree t (tree u ts))) same = refl

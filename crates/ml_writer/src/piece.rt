@@ -1,5 +1,5 @@
 //! What one call writes.
-ghost use Rattle.std.specs.Prelude.{◌≡◌, ◌≤◌, ◌<◌, ◌∷◌, [], ◌++◌, length, map, codes, IfOk, OnOk, OnErr, IsErrOf};
+ghost use Rattle.std.specs.Prelude.{◌≡◌, ◌≤◌, ◌<◌, [], ◌++◌, length, codes, IfOk, OnOk, OnErr, IsErrOf};
 ghost use Rattle.ml_term.specs.Seen.{seen};
 ghost use Rattle.ml_term.specs.Text.{text_of};
 ghost use Rattle.ml_term.specs.Tree.{variables};
@@ -20,10 +20,15 @@ use std::mem;
 /// What one call writes: a term, or a line.
 #[derive(Clone, Copy)]
 pub enum Piece<'a> {
+    /// A term by itself.
     Term(&'a Term),
+    /// `goal J`.
     Goal(u32),
+    /// `  N answers`.
     Count(u32),
+    /// `  error TERM`.
     Error(&'a Term),
+    /// Two spaces, and `NAME = TERM` for each of these, or `true`.
     Answer(&'a [(Name, Term)]),
 }
 
@@ -66,6 +71,7 @@ pub fn append(bytes: &mut Vec<u8>, piece: &Piece<'_>) -> Result<(), AllocError>
     result
 }
 
+/// Puts a term or a line behind a text. A line has its line feed.
 fn put_piece(alloc: Global, piece: &Piece<'_>, out: &mut Draft) -> Result<(), AllocError>
     ensures kept { out.new.before ≡ out.old.before }
     ensures text { OnOk result (out.new.text ≡ out.old.text ++ piece_text piece.now) }
@@ -104,11 +110,11 @@ fn put_bindings(bindings: &[(Name, Term)], met: &mut Met, out: &mut Draft) -> Re
         return out.put(b"true");
     };
     put_binding(first, met, out)?;
-    if rest.is_empty() {
-        return Ok(());
+    for binding in rest {
+        out.put(b", ")?;
+        put_binding(binding, met, out)?;
     }
-    out.put(b", ")?;
-    put_bindings(rest, met, out)
+    Ok(())
 }
 
 /// Puts `NAME = TERM` behind a text.

@@ -2,7 +2,7 @@
 ghost use Rattle.std.specs.Prelude.{◌≡◌, ◌∷◌, [], ◌++◌, length, OnOk};
 ghost use Rattle.ml_term.specs.Seen.{all_seen, seen};
 ghost use Rattle.ml_term.specs.Text.{is_cell, text_of};
-ghost use Rattle.ml_term.specs.Tree.{atom, compound, firsts, trees_of, variable, variables, variables_of};
+ghost use Rattle.ml_term.specs.Tree.{atom, compound, trees_of, variable, variables, variables_of};
 ghost use Rattle.ml_writer.specs.Parts.{MeetTheSame, arguments_text, elements_text, tail_text};
 
 use crate::draft::Draft;
@@ -20,7 +20,7 @@ fn is_cell(name: &Name, args: &[Term]) -> bool
 }
 
 /// The head and the tail of a cell of a list.
-fn parts_of<'a>(args: &'a [Term]) -> (&'a Term, &'a Term)
+fn parts_of(args: &[Term]) -> (&Term, &Term)
     requires { length args.now ≡ 2 }
     ensures { args.now ≡ result.0.now ∷ result.1.now ∷ [] }
 {

@@ -1,9 +1,9 @@
 -- Bytes cut into lines by their lengths: all of them together, with more text, and with one line more.
 use Rattle.std.specs.Prelude.{◌≡◌, ℕ, ◌+◌, ◌-◌, ◌≤◌, List, [], ◌∷◌, ◌++◌, length, take, drop, sum}
 use Rattle.std.specs.List.{flat_map}
-use Rattle.std.proofs.Common.{refl, sym, ap, ◌∙◌, arith, append_assoc, length-append, length-drop}
+use Rattle.std.proofs.Common.{refl, ap, ◌∙◌, arith, append_assoc, length-append, length-drop}
 use Rattle.std.proofs.lemmas.List.Sums.{sum_by-cons}
-use Rattle.std.proofs.lemmas.Grind.{flat_map-append, common_steps}
+use Rattle.std.proofs.lemmas.Grind.{common_steps}
 use Rattle.ml_writer.specs.Output.{Output, bytes_of, with_text, with_line, with_counted}
 use Rattle.ml_writer.specs.Layout.{lines_in, behind, output_of, IsLaidOut}
 

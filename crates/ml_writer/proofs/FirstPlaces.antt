@@ -1,10 +1,10 @@
 -- The first places of numbers in a list, and in a longer one.
-use Rattle.std.specs.Prelude.{◌≡◌, ◌≢◌, ℕ, ◌+◌, true, false, Bool, ◌||◌, ◌==◌, cond, List, [], ◌∷◌, ◌++◌, length}
+use Rattle.std.specs.Prelude.{◌≡◌, ℕ, ◌+◌, cond, List, [], ◌∷◌, ◌++◌}
 use Rattle.std.proofs.Common.{inl, inr, refl, sym, ap, ◌∙◌, subst, arith}
 use Rattle.std.proofs.lemmas.Bool.Decides.{eqb_tells}
 use Rattle.ml_term.specs.Tree.{has, firsts, without, place_in}
 use Rattle.ml_term.specs.Text.{number_in}
-use Rattle.ml_term.proofs.Distinct.{In, has_append}
+use Rattle.ml_term.proofs.Distinct.{In}
 use Rattle.ml_term.proofs.Renaming.{in_firsts}
 
 -- a list without each of some numbers

@@ -1,9 +1,9 @@
 -- The text of a term in a longer line, and in parts.
-use Rattle.std.specs.Prelude.{◌≡◌, ℕ, ◌+◌, ◌==◌, ◌&&◌, true, false, Bool, cond, List, [], ◌∷◌, ◌++◌, length}
+use Rattle.std.specs.Prelude.{◌≡◌, ℕ, true, false, cond, List, [], ◌∷◌, ◌++◌}
 use Rattle.std.proofs.Common.{refl, sym, ap, ◌∙◌, append_assoc, append-nil}
 use Rattle.std.specs.Str.{bytes_eq}
-use Rattle.ml_term.specs.Tree.{Tree, Trees, variable, integer, atom, compound, no_trees, tree, arity, variables, variables_of, firsts}
-use Rattle.ml_term.specs.Text.{text, texts, cell_text, rest_text, text_of, atom_text, compound_text, is_cell, nil, dot, number_in, joined, comma}
+use Rattle.ml_term.specs.Tree.{Tree, Trees, variable, integer, atom, compound, no_trees, tree, variables, variables_of, firsts}
+use Rattle.ml_term.specs.Text.{text, texts, cell_text, rest_text, text_of, atom_text, compound_text, is_cell, nil, number_in, joined, comma}
 use Rattle.ml_term.specs.Decimal.{decimal_text}
 use Rattle.ml_term.proofs.Distinct.{In}
 use Rattle.ml_term.proofs.Substitution.{in_itself}

@@ -1,5 +1,5 @@
 -- A text that is put behind others, and may be taken off their end again.
-use Rattle.std.specs.Prelude.{ℕ, List, ◌++◌}
+use Rattle.std.specs.Prelude.{ℕ, List}
 
 -- the bytes that stood there, and the text behind them
 pub record DraftText : Type 0 where

@@ -1,5 +1,5 @@
 -- The variables that a line met, each once, by first place. The code keeps beside this list a map to the number of each.
-use Rattle.std.specs.Prelude.{◌≡◌, ℕ, suc, ◌+◌, List, Option, Some, None, cond}
+use Rattle.std.specs.Prelude.{◌≡◌, ℕ, List, Option, Some, None, cond}
 use Rattle.std.specs.BTreeMap.{BTreeMap, get, IsOrdered}
 use Rattle.std.specs.Ordering.{nat_cmp}
 use Rattle.ml_term.specs.Tree.{firsts, has}

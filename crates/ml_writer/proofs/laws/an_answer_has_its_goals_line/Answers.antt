@@ -1,5 +1,4 @@
 use Rattle.ml_search.specs.Session.{shown}
-use Rattle.ml_writer.specs.AnswerText.{names_of, terms_of}
 use Rattle.ml_writer.proofs.Bindings.{line_is}
 use Rattle.ml_writer.proofs.laws.an_answer_has_its_goals_line.Goals as goal
 

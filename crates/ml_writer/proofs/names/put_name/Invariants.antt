@@ -1,4 +1,4 @@
-use Rattle.std.proofs.Common.{◌≡◌, ◌++◌, ◌∷◌, [], take}
+use Rattle.std.proofs.Common.{◌≡◌, ◌++◌, ◌∷◌, take}
 use Rattle.std.specs.List.{flat_map}
 use Rattle.ml_term.specs.Text.{quoted_byte}
 use Rattle.ml_writer.proofs.names.put_name.Given as goal

@@ -1,5 +1,5 @@
 -- A line is put in parts.
-use Rattle.std.proofs.Common.{◌≡◌, ◌∙◌, ◌++◌, ◌∷◌, [], ◌^◌, ◌<◌, ap, sym, append_assoc, codes, ℕ, List, rules, arith}
+use Rattle.std.proofs.Common.{◌≡◌, ◌∙◌, ◌++◌, ◌∷◌, [], ◌^◌, ◌<◌, ap, sym, append_assoc, codes, ℕ, List, rules}
 use Rattle.std.specs.Fmt.{decimal}
 use Rattle.std.proofs.lemmas.Result.{on_ok_weaker}
 use Rattle.ml_term.specs.Tree.{Tree}

@@ -1,19 +1,19 @@
 -- Each call puts its part of the text, and meets the variables of that part.
-use Rattle.std.proofs.Common.{◌≡◌, ◌∙◌, ◌++◌, ◌∷◌, [], true, false, ap, sym, subst, append_assoc, ℕ, ℤ, List, FitsSigned, w64, to_z, of_z, ◌≤◌, length, rules, arith}
+use Rattle.std.proofs.Common.{◌≡◌, ◌∙◌, ◌++◌, ◌∷◌, [], true, ap, sym, ℕ, ℤ, List, FitsSigned, w64, to_z, of_z, ◌≤◌, length, rules, arith}
 use Rattle.std.specs.Fmt.{signed_decimal}
 use Rattle.std.proofs.lemmas.Result.{IfOk-equal, on_ok_weaker}
 use Rattle.std.proofs.lemmas.Int.{to_z-of_z}
 use Rattle.std.proofs.lemmas.Bool.Decides.{nat_tests}
 use Rattle.ml_term.specs.declared.term.Term.{Term, Term-F, fold-roll-Term}
 use Rattle.ml_term.specs.declared.term.Term.TheVariants.{Var, Int, Cmp, rolls-Var}
-use Rattle.ml_term.specs.Tree.{Tree, Trees, tree, no_trees, variable, integer, compound, trees_of, firsts, variables, variables_of}
+use Rattle.ml_term.specs.Tree.{Tree, tree, no_trees, variable, compound, trees_of, firsts, variables, variables_of}
 use Rattle.ml_term.specs.Seen.{seen, seen_step, all_seen}
-use Rattle.ml_term.specs.Text.{text_of, is_cell, comma, atom_text}
+use Rattle.ml_term.specs.Text.{text_of, is_cell, comma}
 use Rattle.ml_term.proofs.Decimals.{signed_decimal_is_text}
 use Rattle.ml_term.proofs.Views.{seen_integer, seen_compound}
 use Rattle.ml_writer.specs.Parts.{arguments_text, elements_text, tail_text}
 use Rattle.ml_writer.proofs.Appended.{two_parts, three_parts}
-use Rattle.ml_writer.proofs.Texts.{one_argument, more_arguments, same_text, same_arguments, same_tail, met_both, list_text, compound_in_parts, list_tail, compound_tail}
+use Rattle.ml_writer.proofs.Texts.{one_argument, more_arguments, same_arguments, same_tail, met_both, list_text, list_tail}
 use Rattle.ml_writer.proofs.terms.+put_term.Goals as goal
 
 -- what std writes of an integer that a term holds

@@ -1,6 +1,6 @@
 -- A variable that was met keeps its number.
-use Rattle.std.proofs.Common.{◌≡◌, [], ◌∷◌, ◌++◌, sym, ◌∙◌, subst}
-use Rattle.ml_writer.proofs.MetNumbers.{WasMet, was_met, not_met}
+use Rattle.std.proofs.Common.{sym, ◌∙◌, subst}
+use Rattle.ml_writer.proofs.MetNumbers.{WasMet, was_met}
 use Rattle.ml_writer.proofs.met.Met.number.Goals as goal
 
 known : (c : goal.In-Some) → WasMet c.args.self.now c.args.variable c.in-Some.number

@@ -7,12 +7,13 @@ use Rattle.ml_heap.specs.Changes.{Changes, state, tree_in, stands_for, cell_coun
 use Rattle.ml_heap.specs.declared.cell.Cell.{Cell}
 use Rattle.ml_heap.specs.declared.cell.Cell.TheVariants.{Unbound, Bound, Int, Atom, Cmp}
 use Rattle.ml_heap.specs.declared.cell.Step.{Step}
+use Rattle.ml_heap.specs.Looks.{Tells}
 use Rattle.ml_heap.specs.Layout.{changes_of, cell_in, rank_of, Fits, FitAll, StandFor, AreLinked, IsEnd, IsKept}
 use Rattle.ml_heap.proofs.Keeping.{stand_now}
 use Rattle.ml_heap.proofs.CellsSay.{linked, fits_at}
 
 -- the arguments of a compound as a list
-listed : (us : List Tree) → list_of (trees_of us) ≡ us
+pub listed : (us : List Tree) → list_of (trees_of us) ≡ us
 listed [] = refl
 listed (u ∷ us) = ap (λ z. u ∷ z) (listed us)
 
@@ -93,3 +94,11 @@ is_lower ts cells t (Bound m q) n f e y = absurd e
 is_lower ts cells t (Int z) n f e y = omega arith
 is_lower ts cells t (Atom g) n f e y = omega arith
 is_lower ts cells t (Cmp g qs b) n f e y = omega arith
+
+-- a cell that fits its tree and isn't bound tells it
+pub tells : (h : Changes) (cells : List Cell) (t : Tree) (c : Cell) → length (state h).trees ≡ length cells → Fits (state h).trees cells t c → IsEnd c → Tells h t c
+tells h cells t (Unbound n) s f e = f
+tells h cells t (Bound n q) s f e = e
+tells h cells t (Int z) s f e = f
+tells h cells t (Atom g) s f e = f
+tells h cells t (Cmp g qs b) s f e = (f.0, (λ i l. omega (arith, f.1 i l, s)), f.2)

@@ -9,3 +9,6 @@ pub mod Undoing
 pub mod Bindings
 pub mod Solving
 pub mod Rounds
+pub mod Compounds
+pub mod Walking
+pub mod Worklists

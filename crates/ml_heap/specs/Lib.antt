@@ -1,3 +1,5 @@
 pub mod Changes
 pub mod Layout
 pub mod Looks
+pub mod Equations
+pub mod Rules

@@ -3,7 +3,7 @@ ghost use Rattle.std.specs.Prelude.{◌≡◌, ◌+◌, ◌-◌, ◌<◌, ◌≤
 ghost use Rattle.ml_term.specs.Tree.{variable, integer, atom, compound, trees_of};
 ghost use Rattle.ml_heap.specs.declared.cell.Step.TheVariants.{Made};
 ghost use Rattle.ml_heap.specs.Changes.{Changes, trees, cell_count, variable_count, stands_for, heap_of_mark, KeepsMarks, HasOneMore, MayBeBound, bound_in, IsVariable, number, arguments_of, tree_in};
-ghost use Rattle.ml_heap.specs.Looks.{Shows};
+ghost use Rattle.ml_heap.specs.Looks.{Shows, Tells};
 
 use crate::cell::{Cell, Step};
 use crate::links::{are_ground, end_of, places_of, undo_step};
@@ -144,8 +144,24 @@ impl Heap {
         }
     }
 
+    /// The cell at the end of a cell's bindings, by its name and itself. It takes no memory.
+    pub(crate) fn end_at(&self, at: Ref) -> (Ref, &Cell)
+        requires { at < cell_count self.now }
+        ensures inside { result.0 < cell_count self.now }
+        ensures same { stands_for self.now result.0 ≡ stands_for self.now at }
+        ensures told { Tells self.now (stands_for self.now at) result.1.now }
+    {
+        let end = end_of(&self.cells, at.place());
+        (Ref::at(end), &self.cells[end])
+    }
+
+    /// The allocator that the heap was made with.
+    pub(crate) fn allocator(&self) -> Global {
+        self.alloc
+    }
+
     /// The number of an unbound variable. It takes no memory.
-    fn number_at(&self, at: Ref) -> u32
+    pub(crate) fn number_at(&self, at: Ref) -> u32
         requires inside { at < cell_count self.now }
         requires unbound { IsVariable (stands_for self.now at) }
         ensures { result ≡ number (stands_for self.now at) }

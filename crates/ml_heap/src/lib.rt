@@ -10,6 +10,7 @@ mod links;
 mod look;
 mod marks;
 mod place;
+mod unify;
 
 pub use heap::Heap;
 pub use look::Look;

@@ -1,0 +1,177 @@
+-- A worklist of cells whose terms are walked: whether a variable occurs in one of them, and how many nodes they have.
+use Rattle.std.specs.Prelude.{◌≡◌, ℕ, suc, ◌+◌, ◌<◌, ◌≤◌, true, false, Bool, ◌||◌, ℤ, List, [], ◌∷◌, ◌++◌, map, reverse, length, get_or}
+use Rattle.std.proofs.Common.{inl, inr, refl, sym, ap, ◌∙◌, subst, arith}
+use Rattle.std.proofs.lemmas.Bool.Decides.{eqb_tells}
+use Rattle.std.proofs.lemmas.List.{reverse-append}
+use Rattle.ml_term.specs.Tree.{Tree, compound, trees_of, has, occurs, variables, variables_of, is_ground, nodes, nodes_of, variable, integer, atom}
+use Rattle.ml_term.proofs.Distinct.{has_append}
+use Rattle.ml_term.proofs.Ground.{no_variable}
+use Rattle.ml_term.proofs.Sizes.{nodes_above_zero}
+use Rattle.ml_heap.specs.Changes.{Changes, cell_count, stands_for}
+use Rattle.ml_heap.specs.Looks.{Tells}
+use Rattle.ml_heap.specs.declared.cell.Cell.{Cell}
+use Rattle.ml_heap.specs.declared.cell.Cell.TheVariants.{Unbound, Bound, Int, Atom, Cmp}
+
+-- all cells are below a place
+abbrev pub AreCells : ℕ → List ℕ → Type 0
+AreCells n [] = Unit {0}
+AreCells n (q ∷ qs) = (q < n) × AreCells n qs
+
+-- a variable occurs in the term of one of some cells
+abbrev pub occurs_at : Changes → ℕ → List ℕ → Bool
+occurs_at h n [] = false
+occurs_at h n (q ∷ qs) = occurs n (stands_for h q) || occurs_at h n qs
+
+-- how many nodes the terms of some cells have
+abbrev pub nodes_at : Changes → List ℕ → ℕ
+nodes_at h [] = 0
+nodes_at h (q ∷ qs) = nodes (stands_for h q) + nodes_at h qs
+
+-- what a list reversed comes to, one at a time
+turned : {A : Type 0} (x : A) (xs : List A) → reverse (x ∷ xs) ≡ reverse xs ++ x ∷ []
+turned x xs = reverse-append (x ∷ []) xs
+
+pub cells_append : (n : ℕ) (ps qs : List ℕ) → AreCells n ps → AreCells n qs → AreCells n (ps ++ qs)
+cells_append n [] qs a b = b
+cells_append n (p ∷ ps) qs a b = (a.0, cells_append n ps qs a.1 b)
+
+pub cells_front : (n : ℕ) (ps qs : List ℕ) → AreCells n (ps ++ qs) → AreCells n ps
+cells_front n [] qs a = tt
+cells_front n (p ∷ ps) qs a = (a.0, cells_front n ps qs a.1)
+
+pub cells_back : (n : ℕ) (ps qs : List ℕ) → AreCells n (ps ++ qs) → AreCells n qs
+cells_back n [] qs a = a
+cells_back n (p ∷ ps) qs a = cells_back n ps qs a.1
+
+pub cells_reversed : (n : ℕ) (qs : List ℕ) → AreCells n qs → AreCells n (reverse qs)
+cells_reversed n [] a = tt
+cells_reversed n (q ∷ qs) a = rw (turned q qs) (cells_append n (reverse qs) (q ∷ []) (cells_reversed n qs a.1) (a.0, tt))
+
+pub cells_each : (n : ℕ) (qs : List ℕ) → ((i : ℕ) → i < length qs → get_or qs i 0 < n) → AreCells n qs
+cells_each n [] h = tt
+cells_each n (q ∷ qs) h = (h 0 (omega arith), cells_each n qs (λ i l. h (suc i) (omega arith)))
+
+or_assoc : (a b c : Bool) → (a || (b || c)) ≡ ((a || b) || c)
+or_assoc true b c = refl
+or_assoc false b c = refl
+
+or_swapped : (a b : Bool) → (a || b) ≡ (b || a)
+or_swapped true true = refl
+or_swapped true false = refl
+or_swapped false true = refl
+or_swapped false false = refl
+
+or_false : (a : Bool) → (a || false) ≡ a
+or_false true = refl
+or_false false = refl
+
+module _ (h : Changes) where
+  pub occurs_append : (n : ℕ) (ps qs : List ℕ) → occurs_at h n (ps ++ qs) ≡ occurs_at h n ps || occurs_at h n qs
+  occurs_append n [] qs = refl
+  occurs_append n (p ∷ ps) qs = ap (λ b. occurs n (stands_for h p) || b) (occurs_append n ps qs) ∙ or_assoc (occurs n (stands_for h p)) (occurs_at h n ps) (occurs_at h n qs)
+
+  pub occurs_reversed : (n : ℕ) (qs : List ℕ) → occurs_at h n (reverse qs) ≡ occurs_at h n qs
+  occurs_reversed n [] = refl
+  occurs_reversed n (q ∷ qs) =
+      ap (occurs_at h n) (turned q qs)
+      ∙ (occurs_append n (reverse qs) (q ∷ [])
+      ∙ (ap (λ b. b || (occurs n (stands_for h q) || false)) (occurs_reversed n qs)
+      ∙ (ap (λ b. occurs_at h n qs || b) (or_false (occurs n (stands_for h q))) ∙ or_swapped (occurs_at h n qs) (occurs n (stands_for h q)))))
+
+  pub occurs_compound : (n : ℕ) (f qs : List ℕ) → occurs n (compound f (trees_of (map (stands_for h) qs))) ≡ occurs_at h n qs
+  occurs_compound n f [] = refl
+  occurs_compound n f (q ∷ qs) =
+      has_append n (variables (stands_for h q)) (variables_of (trees_of (map (stands_for h) qs))) ∙ ap (λ b. occurs n (stands_for h q) || b) (occurs_compound n f qs)
+
+  pub nodes_append : (ps qs : List ℕ) → nodes_at h (ps ++ qs) ≡ nodes_at h ps + nodes_at h qs
+  nodes_append [] qs = omega arith
+  nodes_append (p ∷ ps) qs = omega (arith, nodes_append ps qs)
+
+  pub nodes_reversed : (qs : List ℕ) → nodes_at h (reverse qs) ≡ nodes_at h qs
+  nodes_reversed [] = refl
+  nodes_reversed (q ∷ qs) = ap (nodes_at h) (turned q qs) ∙ omega (arith, nodes_append (reverse qs) (q ∷ []), nodes_reversed qs)
+
+  pub nodes_compound : (f qs : List ℕ) → nodes (compound f (trees_of (map (stands_for h) qs))) ≡ 1 + nodes_at h qs
+  nodes_compound f qs = ap (λ n. 1 + n) (each qs)
+    where
+      each : (qs : List ℕ) → nodes_of (trees_of (map (stands_for h) qs)) ≡ nodes_at h qs
+      each [] = refl
+      each (q ∷ qs) = omega (arith, each qs)
+
+-- no variable occurs in a ground term
+pub occurs_in_none : (n : ℕ) (t : Tree) → is_ground t ≡ true → occurs n t ≡ false
+occurs_in_none n t g = none (occurs n t) refl
+  where
+    none : (b : Bool) → occurs n t ≡ b → b ≡ false
+    none true e = absurd (no_variable t g n e)
+    none false e = refl
+
+it_occurs : (n m : ℕ) → m ≡ n → occurs n (variable m) ≡ true
+it_occurs n m e = elim (eqb_tells m n) [ inl q ↦ ap (λ b. b || false) q.0 | inr q ↦ absurd (q.1 e) ]
+
+another : (n m : ℕ) → (m ≡ n → ⊥) → occurs n (variable m) ≡ false
+another n m d = elim (eqb_tells m n) [ inl q ↦ absurd (d q.1) | inr q ↦ ap (λ b. b || false) q.0 ]
+
+-- the last cell is inside, and without it fewer nodes are left
+module _ (h : Changes) (left rest : List ℕ) (at : ℕ) (e : left ≡ rest ++ at ∷ []) where
+  pub last_inside : AreCells (cell_count h) left → at < cell_count h
+  last_inside a = (cells_back (cell_count h) rest (at ∷ []) (subst (AreCells (cell_count h)) e a)).0
+
+  pub rest_inside : AreCells (cell_count h) left → AreCells (cell_count h) rest
+  rest_inside a = cells_front (cell_count h) rest (at ∷ []) (subst (AreCells (cell_count h)) e a)
+
+  as_many : nodes_at h left ≡ nodes_at h rest + nodes (stands_for h at)
+  as_many = ap (nodes_at h) e ∙ omega (arith, nodes_append h rest (at ∷ []))
+
+  pub fewer : nodes_at h rest < nodes_at h left
+  fewer = omega (arith, as_many, nodes_above_zero (stands_for h at))
+
+  -- a compound's arguments in its place
+  module _ (all f qs : List ℕ) (c : stands_for h at ≡ compound f (trees_of (map (stands_for h) qs))) (p : all ≡ rest ++ reverse qs) where
+    pub fewer_pushed : nodes_at h all < nodes_at h left
+    fewer_pushed =
+        let k : nodes (stands_for h at) ≡ 1 + nodes_at h qs = ap nodes c ∙ nodes_compound h f qs in
+        omega (arith, as_many, ap (nodes_at h) p, nodes_append h rest (reverse qs), nodes_reversed h qs)
+
+-- What the cell that is taken next says of an occurrence. What it is read by is another name of its place.
+module _ (h : Changes) (n : ℕ) (b : Bool) (left rest : List ℕ) (at q : ℕ) (cell : Cell) (e : left ≡ rest ++ at ∷ []) (p : q ≡ at)
+    (told : Tells h (stands_for h q) cell) (a : AreCells (cell_count h) left) (o : occurs_at h n left ≡ b) where
+  abbrev IsLeft : List ℕ → Type 0
+  IsLeft qs = AreCells (cell_count h) qs × (occurs_at h n qs ≡ b)
+
+  tells : (c : Cell) → cell ≡ c → Tells h (stands_for h at) c
+  tells c k = subst (λ r. Tells h (stands_for h r) c) p (subst (Tells h (stands_for h q)) k told)
+
+  parts : occurs_at h n rest || occurs n (stands_for h at) ≡ b
+  parts = ap (λ x. occurs_at h n rest || x) (sym (or_false (occurs n (stands_for h at)))) ∙ (sym (occurs_append h n rest (at ∷ [])) ∙ (sym (ap (occurs_at h n) e) ∙ o))
+
+  pub found : (m : ℕ) → cell ≡ Unbound m → m ≡ n → true ≡ b
+  found m k s = sym (ap (λ x. occurs_at h n rest || x) (ap (occurs n) (tells (Unbound m) k) ∙ it_occurs n m s) ∙ or_swapped (occurs_at h n rest) true) ∙ parts
+
+  passed : occurs n (stands_for h at) ≡ false → IsLeft rest
+  passed k = (rest_inside h left rest at e a, sym (ap (λ x. occurs_at h n rest || x) k ∙ or_false (occurs_at h n rest)) ∙ parts)
+
+  pub passed_variable : (m : ℕ) → cell ≡ Unbound m → (m ≡ n → ⊥) → IsLeft rest
+  passed_variable m k d = passed (ap (occurs n) (tells (Unbound m) k) ∙ another n m d)
+
+  pub passed_bound : (m r : ℕ) → cell ≡ Bound m r → IsLeft rest
+  passed_bound m r k = absurd (tells (Bound m r) k)
+
+  pub passed_integer : (z : ℤ) → cell ≡ Int z → IsLeft rest
+  passed_integer z k = passed (ap (occurs n) (tells (Int z) k))
+
+  pub passed_atom : (f : List ℕ) → cell ≡ Atom f → IsLeft rest
+  passed_atom f k = passed (ap (occurs n) (tells (Atom f) k))
+
+  pub passed_ground : (f qs : List ℕ) (g : Bool) → cell ≡ Cmp f qs g → g ≡ true → IsLeft rest
+  passed_ground f qs g k s = passed (occurs_in_none n (stands_for h at) ((tells (Cmp f qs g) k).2 s))
+
+  pub pushed : (all f qs : List ℕ) (g : Bool) → cell ≡ Cmp f qs g → all ≡ rest ++ reverse qs → IsLeft all
+  pushed all f qs g k r =
+      let t = tells (Cmp f qs g) k in (
+        rw r (cells_append (cell_count h) rest (reverse qs) (rest_inside h left rest at e a) (cells_reversed (cell_count h) qs (cells_each (cell_count h) qs t.1))),
+        ap (occurs_at h n) r ∙ (occurs_append h n rest (reverse qs) ∙ (ap (λ x. occurs_at h n rest || x) (occurs_reversed h n qs ∙ sym (ap (occurs n) t.0 ∙ occurs_compound h n f qs)) ∙ parts)),
+      )
+
+  pub compound_is : (f qs : List ℕ) (g : Bool) → cell ≡ Cmp f qs g → stands_for h at ≡ compound f (trees_of (map (stands_for h) qs))
+  compound_is f qs g k = (tells (Cmp f qs g) k).0

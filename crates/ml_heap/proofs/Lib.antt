@@ -12,3 +12,4 @@ pub mod Rounds
 pub mod Compounds
 pub mod Walking
 pub mod Worklists
+pub mod NumbersBelow

@@ -9,10 +9,12 @@ mod heap;
 mod links;
 mod look;
 mod marks;
+mod numbers;
 mod place;
 mod unify;
 
 pub use heap::Heap;
 pub use look::Look;
 pub use marks::marks_keep_their_heaps;
+pub use numbers::numbers_are_below_the_count;
 pub use place::{Mark, Ref};

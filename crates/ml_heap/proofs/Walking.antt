@@ -1,31 +1,17 @@
 -- A worklist of cells whose terms are walked: whether a variable occurs in one of them, and how many nodes they have.
-use Rattle.std.specs.Prelude.{◌≡◌, ℕ, suc, ◌+◌, ◌<◌, ◌≤◌, true, false, Bool, ◌||◌, ℤ, List, [], ◌∷◌, ◌++◌, map, reverse, length, get_or}
-use Rattle.std.proofs.Common.{inl, inr, refl, sym, ap, ◌∙◌, subst, arith}
-use Rattle.std.proofs.lemmas.Bool.Decides.{eqb_tells}
-use Rattle.std.proofs.lemmas.List.{reverse-append}
+use Rattle.std.specs.Prelude.{◌≡◌, ℕ, zero, suc, nat_lt, ◌+◌, ◌<◌, ◌≤◌, true, false, Bool, ◌||◌, ℤ, List, [], ◌∷◌, ◌++◌, map, reverse, length, get_or}
+use Rattle.std.proofs.Common.{inl, inr, refl, sym, ap, ◌∙◌, subst, arith, length-append}
+use Rattle.std.proofs.lemmas.Bool.Decides.{eqb_tells, nat_tests}
+use Rattle.std.proofs.lemmas.List.{reverse-append, length-reverse}
 use Rattle.ml_term.specs.Tree.{Tree, compound, trees_of, has, occurs, variables, variables_of, is_ground, nodes, nodes_of, variable, integer, atom}
 use Rattle.ml_term.proofs.Distinct.{has_append}
 use Rattle.ml_term.proofs.Ground.{no_variable}
 use Rattle.ml_term.proofs.Sizes.{nodes_above_zero}
 use Rattle.ml_heap.specs.Changes.{Changes, cell_count, stands_for}
 use Rattle.ml_heap.specs.Looks.{Tells}
+use Rattle.ml_heap.specs.Walks.{AreCells, occurs_at, nodes_at}
 use Rattle.ml_heap.specs.declared.cell.Cell.{Cell}
 use Rattle.ml_heap.specs.declared.cell.Cell.TheVariants.{Unbound, Bound, Int, Atom, Cmp}
-
--- all cells are below a place
-abbrev pub AreCells : ℕ → List ℕ → Type 0
-AreCells n [] = Unit {0}
-AreCells n (q ∷ qs) = (q < n) × AreCells n qs
-
--- a variable occurs in the term of one of some cells
-abbrev pub occurs_at : Changes → ℕ → List ℕ → Bool
-occurs_at h n [] = false
-occurs_at h n (q ∷ qs) = occurs n (stands_for h q) || occurs_at h n qs
-
--- how many nodes the terms of some cells have
-abbrev pub nodes_at : Changes → List ℕ → ℕ
-nodes_at h [] = 0
-nodes_at h (q ∷ qs) = nodes (stands_for h q) + nodes_at h qs
 
 -- what a list reversed comes to, one at a time
 turned : {A : Type 0} (x : A) (xs : List A) → reverse (x ∷ xs) ≡ reverse xs ++ x ∷ []
@@ -120,7 +106,7 @@ module _ (h : Changes) (left rest : List ℕ) (at : ℕ) (e : left ≡ rest ++ a
   pub rest_inside : AreCells (cell_count h) left → AreCells (cell_count h) rest
   rest_inside a = cells_front (cell_count h) rest (at ∷ []) (subst (AreCells (cell_count h)) e a)
 
-  as_many : nodes_at h left ≡ nodes_at h rest + nodes (stands_for h at)
+  pub as_many : nodes_at h left ≡ nodes_at h rest + nodes (stands_for h at)
   as_many = ap (nodes_at h) e ∙ omega (arith, nodes_append h rest (at ∷ []))
 
   pub fewer : nodes_at h rest < nodes_at h left
@@ -175,3 +161,60 @@ module _ (h : Changes) (n : ℕ) (b : Bool) (left rest : List ℕ) (at q : ℕ) 
 
   pub compound_is : (f qs : List ℕ) (g : Bool) → cell ≡ Cmp f qs g → stands_for h at ≡ compound f (trees_of (map (stands_for h) qs))
   compound_is f qs g k = (tells (Cmp f qs g) k).0
+
+-- a node that is taken, and the cells of its arguments put last
+module _ (h : Changes) (left all : List ℕ) (at q : ℕ) (cell : Cell) (p : q ≡ at) (told : Tells h (stands_for h q) cell) where
+  pub one_node : (e : all ≡ left) → nodes (stands_for h at) ≡ 1 → nodes_at h all + 1 ≡ nodes_at h left + nodes (stands_for h at)
+  one_node e k = omega (arith, ap (nodes_at h) e)
+
+  at_place : (c : Cell) → cell ≡ c → Tells h (stands_for h at) c
+  at_place c k = subst (λ r. Tells h (stands_for h r) c) p (subst (Tells h (stands_for h q)) k told)
+
+  pub leaf_nodes : (c : Cell) → cell ≡ c → ((f qs : List ℕ) (g : Bool) → c ≡ Cmp f qs g → ⊥) → nodes (stands_for h at) ≡ 1
+  leaf_nodes (Unbound n) k d = ap nodes (at_place (Unbound n) k)
+  leaf_nodes (Bound n r) k d = absurd (at_place (Bound n r) k)
+  leaf_nodes (Int z) k d = ap nodes (at_place (Int z) k)
+  leaf_nodes (Atom f) k d = ap nodes (at_place (Atom f) k)
+  leaf_nodes (Cmp f qs g) k d = absurd (d f qs g refl)
+
+  module _ (f qs : List ℕ) (g : Bool) (k : cell ≡ Cmp f qs g) (e : all ≡ left ++ reverse qs) where
+    pub nodes_of_arguments : nodes_at h all + 1 ≡ nodes_at h left + nodes (stands_for h at)
+    nodes_of_arguments =
+        let t = at_place (Cmp f qs g) k in
+        let n : nodes (stands_for h at) ≡ 1 + nodes_at h qs = ap nodes t.0 ∙ nodes_compound h f qs in
+        omega (arith, ap (nodes_at h) e, nodes_append h left (reverse qs), nodes_reversed h qs)
+
+    pub arguments_inside : AreCells (cell_count h) left → AreCells (cell_count h) all
+    arguments_inside a = rw e (cells_append (cell_count h) left (reverse qs) a (cells_reversed (cell_count h) qs (cells_each (cell_count h) qs (at_place (Cmp f qs g) k).1)))
+
+    pub as_many_more : length qs ≤ 255 → length all ≤ length left + 255
+    as_many_more l = omega (arith, ap length e, length-append left (reverse qs), length-reverse qs)
+
+-- every cell has a node
+pub nodes_at_least : (h : Changes) (qs : List ℕ) → length qs ≤ nodes_at h qs
+nodes_at_least h [] = omega arith
+nodes_at_least h (q ∷ qs) = omega (arith, nodes_above_zero (stands_for h q), nodes_at_least h qs)
+
+-- each of some cells has no more nodes than all of them
+pub nodes_of_one : (h : Changes) (qs : List ℕ) (i : ℕ) → i < length qs → nodes (stands_for h (get_or qs i 0)) ≤ nodes_at h qs
+nodes_of_one h [] i l = absurd (omega arith)
+nodes_of_one h (q ∷ qs) zero l = omega arith
+nodes_of_one h (q ∷ qs) (suc i) l = omega (arith, nodes_of_one h qs i (omega arith))
+
+-- a number above another one, by its test
+pub is_above : (m n : ℕ) → m < n → true ≡ nat_lt m n
+is_above m n l = grind (arith, nat_tests)
+
+pub is_not_above : (m n : ℕ) → n ≤ m → false ≡ nat_lt m n
+is_not_above m n l = grind (arith, nat_tests)
+
+-- a compound's cell: its arguments have one node less, and are inside
+module _ (h : Changes) (at q : ℕ) (cell : Cell) (f qs qs' : List ℕ) (g : Bool) (p : q ≡ at) (told : Tells h (stands_for h q) cell) (k : cell ≡ Cmp f qs g) (e : qs' ≡ qs) where
+  it_tells : Tells h (stands_for h at) (Cmp f qs' g)
+  it_tells = rw e (subst (λ r. Tells h (stands_for h r) (Cmp f qs g)) p (subst (Tells h (stands_for h q)) k told))
+
+  pub arguments_nodes : nodes (stands_for h at) ≡ 1 + nodes_at h qs'
+  arguments_nodes = ap nodes it_tells.0 ∙ nodes_compound h f qs'
+
+  pub arguments_are_inside : (i : ℕ) → i < length qs' → get_or qs' i 0 < cell_count h
+  arguments_are_inside = it_tells.1

@@ -3,3 +3,4 @@ pub mod Layout
 pub mod Looks
 pub mod Equations
 pub mod Rules
+pub mod Walks

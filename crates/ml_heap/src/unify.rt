@@ -188,7 +188,7 @@ fn push_pairs(
 }
 
 /// Puts cells last, the first after all others.
-fn push_places(left: &mut Vec<usize>, places: &[usize]) -> Result<(), AllocError>
+pub fn push_places(left: &mut Vec<usize>, places: &[usize]) -> Result<(), AllocError>
     ensures { OnOk result (left.new.items ≡ left.old.items ++ reverse places.now) }
 {
     let mut i = places.len();

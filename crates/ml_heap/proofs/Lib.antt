@@ -13,3 +13,5 @@ pub mod Compounds
 pub mod Walking
 pub mod Worklists
 pub mod NumbersBelow
+pub mod FirstPlaces
+pub mod Copying

@@ -37,6 +37,15 @@ pub cells_each : (n : ℕ) (qs : List ℕ) → ((i : ℕ) → i < length qs → 
 cells_each n [] h = tt
 cells_each n (q ∷ qs) h = (h 0 (omega arith), cells_each n qs (λ i l. h (suc i) (omega arith)))
 
+pub cells_wider : (n m : ℕ) (qs : List ℕ) → n ≤ m → AreCells n qs → AreCells m qs
+cells_wider n m [] l a = tt
+cells_wider n m (q ∷ qs) l a = (omega (arith, l, a.0), cells_wider n m qs l a.1)
+
+pub cells_at : (n : ℕ) (qs : List ℕ) → AreCells n qs → (i : ℕ) → i < length qs → get_or qs i 0 < n
+cells_at n [] a i l = absurd (omega arith)
+cells_at n (q ∷ qs) a zero l = a.0
+cells_at n (q ∷ qs) a (suc i) l = cells_at n qs a.1 i (omega arith)
+
 or_assoc : (a b c : Bool) → (a || (b || c)) ≡ ((a || b) || c)
 or_assoc true b c = refl
 or_assoc false b c = refl

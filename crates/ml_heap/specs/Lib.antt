@@ -4,3 +4,4 @@ pub mod Looks
 pub mod Equations
 pub mod Rules
 pub mod Walks
+pub mod Storing

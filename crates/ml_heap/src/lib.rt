@@ -10,9 +10,11 @@ mod limits;
 mod links;
 mod look;
 mod marks;
+mod met;
 mod numbers;
 mod place;
 mod stop;
+mod store;
 mod trees;
 mod unify;
 

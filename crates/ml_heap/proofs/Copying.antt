@@ -3,10 +3,12 @@ use Rattle.std.specs.Prelude.{◌≡◌, ◌≢◌, ℕ, zero, suc, ◌+◌, ◌
 use Rattle.std.proofs.Common.{inl, inr, refl, sym, ap, ◌∙◌, subst, arith, append_assoc, length-append}
 use Rattle.std.proofs.Math.ListN.{get_or-append}
 use Rattle.std.proofs.Math.Seq.{get_or-append_seam}
+use Rattle.std.proofs.lemmas.Bool.{and_parts}
 use Rattle.std.proofs.lemmas.Bool.Decides.{eqb_tells}
 use Rattle.std.proofs.lemmas.List.{map-append, take_more}
 use Rattle.ml_term.specs.Tree.{Tree, Trees, variable, integer, atom, compound, no_trees, tree, trees_of, has, firsts, place_in, variables, variables_of, nodes, nodes_of, substituted, substituted_in}
 use Rattle.ml_term.specs.Seen.{seen, seen_step, all_seen}
+use Rattle.ml_term.specs.Valid.{is_valid, are_valid}
 use Rattle.ml_term.specs.declared.term.Term.{Term, Term-F, fold-roll-Term}
 use Rattle.ml_term.specs.declared.term.Term.TheVariants.{Var, rolls-Var}
 use Rattle.ml_term.proofs.Distinct.{In, has_append}
@@ -247,6 +249,12 @@ pub nodes_of_item : (ts : List Term) (i : ℕ) (t : Term) → i < length ts → 
 nodes_of_item [] i t l e = absurd (omega arith)
 nodes_of_item (u ∷ ts) zero t l e = omega (arith, ap (λ u. nodes (seen u)) e)
 nodes_of_item (u ∷ ts) (suc i) t l e = omega (arith, nodes_of_item ts i t (omega arith) e)
+
+-- one of some valid terms is valid
+pub valid_item : (ts : List Term) (i : ℕ) (t : Term) → i < length ts → t ≡ get_or ts i t → are_valid (trees_of (all_seen ts)) ≡ true → is_valid (seen t) ≡ true
+valid_item [] i t l e v = absurd (omega arith)
+valid_item (u ∷ ts) zero t l e v = ap (λ u. is_valid (seen u)) e ∙ (and_parts _ _ v).0
+valid_item (u ∷ ts) (suc i) t l e v = valid_item ts i t (omega arith) e (and_parts _ _ v).1
 
 -- the terms up to one that is read, and that one
 pub seen_so_far : (ts : List Term) (i : ℕ) (t : Term) → i < length ts → t ≡ get_or ts i t → all_seen (take (i + 1) ts) ≡ all_seen (take i ts) ++ seen t ∷ []

@@ -15,3 +15,4 @@ pub mod Worklists
 pub mod NumbersBelow
 pub mod FirstPlaces
 pub mod Copying
+pub mod Validity

@@ -1,7 +1,8 @@
 //! Terms taken out of a heap. A term can be far larger than the cells that it shares, so its nodes are counted first, up to the limit.
-ghost use Rattle.std.specs.Prelude.{◌≡◌, ◌<◌, ◌≤◌, ◌+◌, ℕ, length, map, nat_lt, IfOk, OnOk, Err, slice_index};
+ghost use Rattle.std.specs.Prelude.{◌≡◌, ◌<◌, ◌≤◌, ◌+◌, ℕ, length, map, nat_lt, IsTrue, IfOk, OnOk, Err, slice_index};
 ghost use Rattle.ml_term.specs.Tree.{nodes};
 ghost use Rattle.ml_term.specs.Seen.{seen, all_seen};
+ghost use Rattle.ml_term.specs.Valid.{is_valid};
 ghost use Rattle.ml_heap.specs.Changes.{cell_count, stands_for};
 ghost use Rattle.ml_heap.specs.Rules.{AreInside};
 ghost use Rattle.ml_heap.specs.Walks.{AreCells, nodes_at};
@@ -18,16 +19,19 @@ use std::alloc::AllocError;
 
 impl Heap {
     /// The term that a cell stands for, with the heap's numbers of variables. `TooLarge` exactly where it has over 4,096 nodes.
+    /// Either answer and want of memory leave the heap as it is.
     pub fn tree_at(&self, at: Ref) -> Result<Term, TreeStop>
         requires { at < cell_count self.now }
         ensures taken { IfOk result (λ term. seen term ≡ stands_for self.now at) }
+        ensures valid { IfOk result (λ term. IsTrue (is_valid (seen term))) }
         ensures small { OnOk result (nodes (stands_for self.now at) ≤ 4096) }
         ensures too_large { result ≡ Err tree_stop.TooLarge → 4096 < nodes (stands_for self.now at) }
     {
-        if self.is_too_large(at)? {
+        let (end, _) = self.end_at(at);
+        if self.is_too_large(end)? {
             return Err(TreeStop::TooLarge);
         }
-        Ok(self.term_at(at.place())?)
+        Ok(self.term_at(end.place())?)
     }
 
     /// Whether a cell's term has over 4,096 nodes. What is shared counts as often as it stands there.

@@ -7,7 +7,7 @@ use Rattle.ml_term.specs.Seen.{seen, all_seen}
 use Rattle.ml_term.proofs.Views.{seen_integer, seen_atom, seen_compound}
 use Rattle.ml_heap.specs.Changes.{HasOneMore}
 use Rattle.ml_heap.specs.Storing.{AreStored}
-use Rattle.ml_heap.proofs.Copying.{stored_variable, stored_integer, stored_atom, stored_compound, one_more_stored, grows_on, nodes_of_item, seen_so_far, seen_variable}
+use Rattle.ml_heap.proofs.Copying.{stored_variable, stored_integer, stored_atom, stored_compound, one_more_stored, grows_on, nodes_of_item, valid_item, seen_so_far, seen_variable}
 use Rattle.ml_heap.proofs.Walking.{cells_at}
 use Rattle.ml_heap.proofs.heap.Heap.+store.Goals as goal
 
@@ -19,7 +19,7 @@ store-new_cmp-requires-clause-high t c = omega (arith, c.as_slice.ensures.high, 
 
 pub store-new_cmp-requires-clause-inside : goal.store-new_cmp-requires-clause-inside
 store-new_cmp-requires-clause-inside t c =
-    let a = c.in_ok-args-in-Cmp.ensures.stored c.requires.0 c.requires.1.0 c.requires.1.1 in
+    let a = c.in_ok-args-in-Cmp.ensures.stored c.requires.known.0 c.requires.known.1.0 c.requires.known.1.1 in
     let value : c.as_slice-in-Cmp.result.now ≡ c.in_ok-args-in-Cmp.args.items = c.as_slice-in-Cmp.ensures.value in
     rw value (cells_at _ _ a.inside)
 
@@ -50,8 +50,8 @@ store-returns-in_ok-new_cmp-in-Cmp-clause-stored t c base ns w =
 
 pub store_all-store-requires : goal.store_all-store-requires
 store_all-store-requires t c =
-    let s = c.loop-t.invariant.stored c.requires.0 c.requires.1.0 c.requires.1.1 in
-    (omega (arith, nodes_of_item _ _ _ c.loop-t-test.true c.t-item.is, c.decreases), (c.requires.0, (_, s.knows)))
+    let s = c.loop-t.invariant.stored c.requires.known.0 c.requires.known.1.0 c.requires.known.1.1 in
+    (omega (arith, nodes_of_item _ _ _ c.loop-t-test.true c.t-item.is, c.decreases), (valid_item _ _ _ c.loop-t-test.true c.t-item.is c.requires.valid, (c.requires.known.0, (_, s.knows))))
 
 pub store_all-loop-t-preserved : goal.store_all-loop-t-preserved
 store_all-loop-t-preserved t c = record {

@@ -1,7 +1,7 @@
 -- The cell at the end of the bindings fits its tree.
 use Rattle.std.proofs.Common.{ap, ◌∙◌, arith}
 use Rattle.ml_heap.specs.Changes.{stands_for}
-use Rattle.ml_heap.proofs.Inside.{stands, are_linked, is_inside, end_inside, same_tree, found, is_end, tells}
+use Rattle.ml_heap.proofs.Inside.{stands, are_linked, is_inside, end_inside, same_tree, found, is_end, tells, is_term}
 use Rattle.ml_heap.proofs.heap.Heap.end_at.Goals as goal
 
 pub end_of-end-requires-clause-inside : goal.end_of-end-requires-clause-inside
@@ -27,3 +27,6 @@ returns-clause-told c =
     let fit = found _ _ _ c.self.invariant _ c.self.view_is _ c.deref.ensures.value _ _ _ c.end_of-end.ensures.inside c.end_of-end.ensures.same c.place.ensures c.index.result.now c.index.ensures in
     let end = is_end _ _ _ c.self.invariant _ c.self.view_is _ c.deref.ensures.value _ _ _ c.end_of-end.ensures.inside c.end_of-end.ensures.same c.place.ensures c.index.result.now c.index.ensures c.end_of-end.ensures.end in
     tells c.args.self.now c.self.inside.cells.items _ c.index.result.now size fit end
+
+pub returns-clause-valid : goal.returns-clause-valid
+returns-clause-valid c = is_term _ _ _ c.self.invariant _ c.self.view_is c.args.at

@@ -4,8 +4,8 @@ use Rattle.ml_heap.specs.Changes.{variable_count}
 use Rattle.ml_heap.proofs.Copying.{nothing_met}
 use Rattle.ml_heap.proofs.heap.Heap.store_tree.Goals as goal
 
-pub store-requires : goal.store-requires
-store-requires c = (variable_count c.args.self.now, ([], nothing_met c.args.self.now _ c.new-met.ensures))
+pub store-requires-clause-known : goal.store-requires-clause-known
+store-requires-clause-known c = (variable_count c.args.self.now, ([], nothing_met c.args.self.now _ c.new-met.ensures))
 
 pub returns-in-Ok-clause-stored : goal.returns-in-Ok-clause-stored
 returns-in-Ok-clause-stored c =

@@ -1,6 +1,7 @@
 -- A worklist of cells whose terms are walked: whether a variable occurs in one of them, and how many nodes they have.
-use Rattle.std.specs.Prelude.{◌≡◌, ℕ, zero, suc, nat_lt, ◌+◌, ◌<◌, ◌≤◌, true, false, Bool, ◌||◌, ℤ, List, [], ◌∷◌, ◌++◌, map, reverse, length, get_or}
-use Rattle.std.proofs.Common.{inl, inr, refl, sym, ap, ◌∙◌, subst, arith, length-append}
+use Rattle.std.specs.Prelude.{◌≡◌, ℕ, zero, suc, nat_lt, ◌+◌, ◌<◌, ◌≤◌, true, false, Bool, ◌||◌, ℤ, List, [], ◌∷◌, ◌++◌, map, reverse, length, drop, get_or}
+use Rattle.std.proofs.Common.{inl, inr, refl, sym, ap, ◌∙◌, subst, arith, add-one, length-append}
+use Rattle.std.proofs.Math.Seq.{drop-cons}
 use Rattle.std.proofs.lemmas.Bool.Decides.{eqb_tells, nat_tests}
 use Rattle.std.proofs.lemmas.List.{reverse-append, length-reverse}
 use Rattle.ml_term.specs.Tree.{Tree, compound, trees_of, has, occurs, variables, variables_of, is_ground, nodes, nodes_of, variable, integer, atom}
@@ -101,13 +102,7 @@ occurs_in_none n t g = none (occurs n t) refl
     none true e = absurd (no_variable t g n e)
     none false e = refl
 
-it_occurs : (n m : ℕ) → m ≡ n → occurs n (variable m) ≡ true
-it_occurs n m e = elim (eqb_tells m n) [ inl q ↦ ap (λ b. b || false) q.0 | inr q ↦ absurd (q.1 e) ]
-
-another : (n m : ℕ) → (m ≡ n → ⊥) → occurs n (variable m) ≡ false
-another n m d = elim (eqb_tells m n) [ inl q ↦ absurd (d q.1) | inr q ↦ ap (λ b. b || false) q.0 ]
-
--- the last cell is inside, and without it fewer nodes are left
+-- the last cell is inside, and has the nodes that the others lack
 module _ (h : Changes) (left rest : List ℕ) (at : ℕ) (e : left ≡ rest ++ at ∷ []) where
   pub last_inside : AreCells (cell_count h) left → at < cell_count h
   last_inside a = (cells_back (cell_count h) rest (at ∷ []) (subst (AreCells (cell_count h)) e a)).0
@@ -117,59 +112,6 @@ module _ (h : Changes) (left rest : List ℕ) (at : ℕ) (e : left ≡ rest ++ a
 
   pub as_many : nodes_at h left ≡ nodes_at h rest + nodes (stands_for h at)
   as_many = ap (nodes_at h) e ∙ omega (arith, nodes_append h rest (at ∷ []))
-
-  pub fewer : nodes_at h rest < nodes_at h left
-  fewer = omega (arith, as_many, nodes_above_zero (stands_for h at))
-
-  -- a compound's arguments in its place
-  module _ (all f qs : List ℕ) (c : stands_for h at ≡ compound f (trees_of (map (stands_for h) qs))) (p : all ≡ rest ++ reverse qs) where
-    pub fewer_pushed : nodes_at h all < nodes_at h left
-    fewer_pushed =
-        let k : nodes (stands_for h at) ≡ 1 + nodes_at h qs = ap nodes c ∙ nodes_compound h f qs in
-        omega (arith, as_many, ap (nodes_at h) p, nodes_append h rest (reverse qs), nodes_reversed h qs)
-
--- What the cell that is taken next says of an occurrence. What it is read by is another name of its place.
-module _ (h : Changes) (n : ℕ) (b : Bool) (left rest : List ℕ) (at q : ℕ) (cell : Cell) (e : left ≡ rest ++ at ∷ []) (p : q ≡ at)
-    (told : Tells h (stands_for h q) cell) (a : AreCells (cell_count h) left) (o : occurs_at h n left ≡ b) where
-  abbrev IsLeft : List ℕ → Type 0
-  IsLeft qs = AreCells (cell_count h) qs × (occurs_at h n qs ≡ b)
-
-  tells : (c : Cell) → cell ≡ c → Tells h (stands_for h at) c
-  tells c k = subst (λ r. Tells h (stands_for h r) c) p (subst (Tells h (stands_for h q)) k told)
-
-  parts : occurs_at h n rest || occurs n (stands_for h at) ≡ b
-  parts = ap (λ x. occurs_at h n rest || x) (sym (or_false (occurs n (stands_for h at)))) ∙ (sym (occurs_append h n rest (at ∷ [])) ∙ (sym (ap (occurs_at h n) e) ∙ o))
-
-  pub found : (m : ℕ) → cell ≡ Unbound m → m ≡ n → true ≡ b
-  found m k s = sym (ap (λ x. occurs_at h n rest || x) (ap (occurs n) (tells (Unbound m) k) ∙ it_occurs n m s) ∙ or_swapped (occurs_at h n rest) true) ∙ parts
-
-  passed : occurs n (stands_for h at) ≡ false → IsLeft rest
-  passed k = (rest_inside h left rest at e a, sym (ap (λ x. occurs_at h n rest || x) k ∙ or_false (occurs_at h n rest)) ∙ parts)
-
-  pub passed_variable : (m : ℕ) → cell ≡ Unbound m → (m ≡ n → ⊥) → IsLeft rest
-  passed_variable m k d = passed (ap (occurs n) (tells (Unbound m) k) ∙ another n m d)
-
-  pub passed_bound : (m r : ℕ) → cell ≡ Bound m r → IsLeft rest
-  passed_bound m r k = absurd (tells (Bound m r) k)
-
-  pub passed_integer : (z : ℤ) → cell ≡ Int z → IsLeft rest
-  passed_integer z k = passed (ap (occurs n) (tells (Int z) k))
-
-  pub passed_atom : (f : List ℕ) → cell ≡ Atom f → IsLeft rest
-  passed_atom f k = passed (ap (occurs n) (tells (Atom f) k))
-
-  pub passed_ground : (f qs : List ℕ) (g : Bool) → cell ≡ Cmp f qs g → g ≡ true → IsLeft rest
-  passed_ground f qs g k s = passed (occurs_in_none n (stands_for h at) ((tells (Cmp f qs g) k).2 s))
-
-  pub pushed : (all f qs : List ℕ) (g : Bool) → cell ≡ Cmp f qs g → all ≡ rest ++ reverse qs → IsLeft all
-  pushed all f qs g k r =
-      let t = tells (Cmp f qs g) k in (
-        rw r (cells_append (cell_count h) rest (reverse qs) (rest_inside h left rest at e a) (cells_reversed (cell_count h) qs (cells_each (cell_count h) qs t.1))),
-        ap (occurs_at h n) r ∙ (occurs_append h n rest (reverse qs) ∙ (ap (λ x. occurs_at h n rest || x) (occurs_reversed h n qs ∙ sym (ap (occurs n) t.0 ∙ occurs_compound h n f qs)) ∙ parts)),
-      )
-
-  pub compound_is : (f qs : List ℕ) (g : Bool) → cell ≡ Cmp f qs g → stands_for h at ≡ compound f (trees_of (map (stands_for h) qs))
-  compound_is f qs g k = (tells (Cmp f qs g) k).0
 
 -- a node that is taken, and the cells of its arguments put last
 module _ (h : Changes) (left all : List ℕ) (at q : ℕ) (cell : Cell) (p : q ≡ at) (told : Tells h (stands_for h q) cell) where
@@ -225,5 +167,32 @@ module _ (h : Changes) (at q : ℕ) (cell : Cell) (f qs qs' : List ℕ) (g : Boo
   pub arguments_nodes : nodes (stands_for h at) ≡ 1 + nodes_at h qs'
   arguments_nodes = ap nodes it_tells.0 ∙ nodes_compound h f qs'
 
+  pub arguments_occurs : (n : ℕ) → occurs n (stands_for h at) ≡ occurs_at h n qs'
+  arguments_occurs n = ap (occurs n) it_tells.0 ∙ occurs_compound h n f qs'
+
   pub arguments_are_inside : (i : ℕ) → i < length qs' → get_or qs' i 0 < cell_count h
   arguments_are_inside = it_tells.1
+
+-- a cell that is put last
+module _ (h : Changes) (qs all : List ℕ) (at : ℕ) (e : all ≡ qs ++ at ∷ []) where
+  pub occurs_last : (n : ℕ) → occurs_at h n all ≡ occurs_at h n qs || occurs n (stands_for h at)
+  occurs_last n = ap (occurs_at h n) e ∙ (occurs_append h n qs (at ∷ []) ∙ ap (λ b. occurs_at h n qs || b) (or_false (occurs n (stands_for h at))))
+
+  pub found_last : (n : ℕ) → occurs n (stands_for h at) ≡ true → occurs_at h n all ≡ true
+  found_last n o = occurs_last n ∙ (ap (λ b. occurs_at h n qs || b) o ∙ or_swapped (occurs_at h n qs) true)
+
+  pub nodes_last : nodes_at h all ≤ nodes_at h qs + nodes (stands_for h at)
+  nodes_last = omega (arith, ap (nodes_at h) e, nodes_append h qs (at ∷ []))
+
+  pub inside_last : at < cell_count h → AreCells (cell_count h) qs → AreCells (cell_count h) all
+  inside_last l a = rw e (cells_append (cell_count h) qs (at ∷ []) a (l, tt))
+
+-- a variable that occurs in the term of one cell occurs in one of some cells' terms
+module _ (h : Changes) (n : ℕ) (qs : List ℕ) (i : ℕ) (l : i < length qs) where
+  pub one_occurs : occurs n (stands_for h (get_or qs i 0)) ≡ true → occurs_at h n qs ≡ true
+  one_occurs = it_does qs i l
+    where
+      it_does : (qs : List ℕ) (i : ℕ) → i < length qs → occurs n (stands_for h (get_or qs i 0)) ≡ true → occurs_at h n qs ≡ true
+      it_does [] i l e = absurd (omega arith)
+      it_does (q ∷ qs) zero l e = ap (λ b. b || occurs_at h n qs) e
+      it_does (q ∷ qs) (suc i) l e = ap (λ b. occurs n (stands_for h q) || b) (it_does qs i (omega arith) e) ∙ or_swapped (occurs n (stands_for h q)) true

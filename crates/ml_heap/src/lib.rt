@@ -12,6 +12,7 @@ mod look;
 mod marks;
 mod met;
 mod numbers;
+mod occurs;
 mod place;
 mod stop;
 mod store;

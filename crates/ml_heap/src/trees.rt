@@ -1,5 +1,5 @@
 //! Terms taken out of a heap. A term can be far larger than the cells that it shares, so its nodes are counted first, up to the limit.
-ghost use Rattle.std.specs.Prelude.{◌≡◌, ◌<◌, ◌≤◌, ◌+◌, ℕ, length, map, nat_lt, IsTrue, IfOk, OnOk, Err, slice_index};
+ghost use Rattle.std.specs.Prelude.{◌≡◌, ◌<◌, ◌≤◌, ◌+◌, ◌++◌, ℕ, length, reverse, map, nat_lt, IsTrue, IfOk, OnOk, Err, slice_index};
 ghost use Rattle.ml_term.specs.Tree.{nodes};
 ghost use Rattle.ml_term.specs.Seen.{seen, all_seen};
 ghost use Rattle.ml_term.specs.Valid.{is_valid};
@@ -13,7 +13,6 @@ use crate::heap::Heap;
 use crate::limits::MOST_NODES;
 use crate::place::Ref;
 use crate::stop::TreeStop;
-use crate::unify::push_places;
 use ml_term::{ArgsOf, Term};
 use std::alloc::AllocError;
 
@@ -102,4 +101,16 @@ impl Heap {
         }
         Ok(terms)
     }
+}
+
+/// Puts cells last, the first after all others.
+fn push_places(left: &mut Vec<usize>, places: &[usize]) -> Result<(), AllocError>
+    ensures { OnOk result (left.new.items ≡ left.old.items ++ reverse places.now) }
+{
+    let mut i = places.len();
+    while i > 0 {
+        i -= 1;
+        left.push(places[i])?;
+    }
+    Ok(())
 }

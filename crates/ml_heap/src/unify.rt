@@ -3,11 +3,10 @@
 ghost use Rattle.std.specs.Prelude.{◌≡◌, ◌+◌, ◌<◌, ◌++◌, ◌∷◌, [], ℕ, true, false, length, map, reverse, Some, IfOk, OnOk, IsTrue, slice_index};
 ghost use Rattle.std.specs.Option.{is_some};
 ghost use Rattle.std.specs.List.{zip};
-ghost use Rattle.ml_term.specs.Tree.{occurs};
 ghost use Rattle.ml_term.specs.Unify.{Map, unifier, mgu, applied, step, clash};
-ghost use Rattle.ml_heap.specs.Changes.{trees, cell_count, variable_count, stands_for, KeepsMarks, IsVariable, number};
+ghost use Rattle.ml_heap.specs.Changes.{trees, cell_count, variable_count, stands_for, KeepsMarks};
 ghost use Rattle.ml_heap.specs.Equations.{left_by, AreBelow, Turned};
-ghost use Rattle.ml_heap.specs.Rules.{Applies, AreInside, pairs};
+ghost use Rattle.ml_heap.specs.Rules.{Applies};
 
 use crate::cell::Cell;
 use crate::heap::Heap;
@@ -130,36 +129,6 @@ impl Heap {
             _ => Rule::Clash,
         }
     }
-
-    /// Whether an unbound variable occurs in the term of a cell. What is known to be ground isn't walked.
-    fn occurs_in(&self, var: Ref, at: Ref) -> Result<bool, AllocError>
-        requires var_inside { var < cell_count self.now }
-        requires at_inside { at < cell_count self.now }
-        requires unbound { IsVariable (stands_for self.now var) }
-        ensures { IfOk result (λ found. found ≡ occurs (number (stands_for self.now var)) (stands_for self.now at)) }
-    {
-        let number = self.number_at(var);
-        let mut left = Vec::new(self.allocator());
-        left.push(at.place())?;
-        while let Some(at) = left.pop() {
-            match self.end_at(Ref::at(at)).1 {
-                Cell::Unbound(n) => {
-                    if *n == number {
-                        return Ok(true);
-                    }
-                }
-                Cell::Cmp(_, args, ground) => {
-                    if !*ground {
-                        push_places(&mut left, args.as_slice())?;
-                    }
-                }
-                Cell::Bound(_, _) => {}
-                Cell::Int(_) => {}
-                Cell::Atom(_) => {}
-            }
-        }
-        Ok(false)
-    }
 }
 
 /// Nothing where both sides are the same, and else a clash.
@@ -183,18 +152,6 @@ fn push_pairs(
     while i > 0 {
         i -= 1;
         left.push((first[i], second[i]))?;
-    }
-    Ok(())
-}
-
-/// Puts cells last, the first after all others.
-pub fn push_places(left: &mut Vec<usize>, places: &[usize]) -> Result<(), AllocError>
-    ensures { OnOk result (left.new.items ≡ left.old.items ++ reverse places.now) }
-{
-    let mut i = places.len();
-    while i > 0 {
-        i -= 1;
-        left.push(places[i])?;
     }
     Ok(())
 }

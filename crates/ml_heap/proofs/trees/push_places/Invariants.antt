@@ -1,6 +1,6 @@
 -- The later cells have been put last, the latest of them first.
 use Rattle.std.proofs.Common.{◌≡◌, ◌≤◌, ◌++◌, length, drop, reverse}
-use Rattle.ml_heap.proofs.unify.push_places.Given as goal
+use Rattle.ml_heap.proofs.trees.push_places.Given as goal
 
 abbrev pub invariant-loop-i : goal.invariant-loop-i
 invariant-loop-i l = (l.i ≤ length l.places) × (l.left.items ≡ l.fn.left.items ++ reverse (drop l.i l.places))

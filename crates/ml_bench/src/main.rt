@@ -2,12 +2,14 @@
 //! timed, and stands in a file of its own. It stands on the crates whose work it does. No layer stands above it.
 #![tactic(auto)]
 
+mod append;
 mod copy;
 mod ground;
 mod lists;
 mod round;
 mod unify;
 
+use append::append;
 use copy::copy;
 use ground::ground;
 use std::alloc::{AllocError, Global};
@@ -38,6 +40,7 @@ fn main(rt: HostRuntime) -> io::Result<ExitCode> {
 /// Does a work, and says whether all went as wanted. None is named otherwise.
 fn done(alloc: Global, work: &str, count: u32) -> Result<Option<bool>, AllocError> {
     match work {
+        "append" => Ok(Some(append(alloc, count)?)),
         "unify" => Ok(Some(unify(alloc, count)?)),
         "ground" => Ok(Some(ground(alloc, count)?)),
         "copy" => Ok(Some(copy(alloc, count)?)),
@@ -47,6 +50,6 @@ fn done(alloc: Global, work: &str, count: u32) -> Result<Option<bool>, AllocErro
 
 /// Tells what the words may be.
 fn usage(rt: &HostRuntime) -> io::Result<ExitCode> {
-    println!(rt; "ml_bench unify N | ground N | copy N")?;
+    println!(rt; "ml_bench unify N | ground N | append N | copy N")?;
     Ok(ExitCode::from(2))
 }

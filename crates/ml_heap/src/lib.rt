@@ -16,6 +16,8 @@ mod occurs;
 mod place;
 mod stop;
 mod store;
+#[cfg(test)]
+mod tests;
 mod trees;
 mod unify;
 

@@ -10,7 +10,6 @@ mod limits;
 mod line;
 mod load;
 mod matching;
-mod probe;
 mod relation;
 mod run;
 mod session;

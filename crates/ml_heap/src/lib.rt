@@ -6,12 +6,25 @@
 
 mod cell;
 mod heap;
+mod limits;
 mod links;
 mod look;
 mod marks;
+mod met;
+mod numbers;
+mod occurs;
 mod place;
+mod stop;
+mod store;
+#[cfg(test)]
+mod tests;
+mod trees;
+mod unify;
 
 pub use heap::Heap;
+pub use limits::MOST_NODES;
 pub use look::Look;
 pub use marks::marks_keep_their_heaps;
+pub use numbers::numbers_are_below_the_count;
 pub use place::{Mark, Ref};
+pub use stop::TreeStop;

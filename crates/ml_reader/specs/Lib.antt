@@ -12,3 +12,5 @@ pub mod Standing
 pub mod ContextSeen
 pub mod Limits
 pub mod LimitsSeen
+pub mod Levels
+pub mod Texts

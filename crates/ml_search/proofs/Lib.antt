@@ -14,3 +14,7 @@ pub mod Decimals
 pub mod Showing
 pub mod Quiet
 pub mod Orders
+pub mod Declaring
+pub mod WellFormedParts
+pub mod ReservedNames
+pub mod Callable

@@ -4,16 +4,42 @@
 #![tactic(auto)]
 
 mod change;
+mod clause;
+mod clauses;
+mod decls;
 mod ending;
+mod goal;
+mod goals;
+mod last;
 pub mod laws;
+mod limits;
 mod log;
+mod names;
 mod operation;
+mod program;
+#[cfg(test)]
+mod program_tests;
+mod reserved;
 pub mod rows;
+mod script;
 #[cfg(test)]
 mod tests;
 
 pub use change::{Change, What};
+pub use clause::Clause;
+pub use clauses::Clauses;
+pub use decls::Decls;
 pub use ending::{Ending, EntryEnding};
+pub use goal::Goal;
+pub use goals::Goals;
+pub use last::Last;
+pub use limits::{
+    GIVEN_INFERENCES, MOST_DECLARATIONS, MOST_GOALS, MOST_INFERENCES, MOST_ITEM_BYTES,
+};
 pub use log::Log;
 pub use ml_term::{Decl, Keys, Kind, Pred};
+pub use names::Names;
 pub use operation::{Op, Reply};
+pub use program::Program;
+pub use reserved::{is_callable, is_clause_head, is_reserved};
+pub use script::Script;

@@ -7,6 +7,9 @@ pub mod Alikes
 pub mod Complete
 pub mod Wanting
 pub mod InFront
+pub mod Keeping
+pub mod Within
+pub mod Staying
 pub mod Blind
 pub mod ExactLaws
 pub mod Views

@@ -1,7 +1,15 @@
 pub mod OperatorLaws
 pub mod Sound
 pub mod Open
+pub mod Paths
+pub mod Following
+pub mod Alikes
 pub mod Complete
+pub mod Wanting
+pub mod InFront
+pub mod Keeping
+pub mod Within
+pub mod Staying
 pub mod Blind
 pub mod ExactLaws
 pub mod Views

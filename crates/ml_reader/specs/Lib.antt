@@ -12,3 +12,8 @@ pub mod Standing
 pub mod ContextSeen
 pub mod Limits
 pub mod LimitsSeen
+pub mod Levels
+pub mod Texts
+pub mod Faults
+pub mod Turns
+pub mod TurnsSeen

@@ -7,6 +7,7 @@
 #![tactic(auto)]
 
 mod building;
+mod clauses;
 mod context;
 mod fault;
 mod frames;
@@ -19,8 +20,10 @@ mod operators;
 mod parser;
 #[cfg(test)]
 mod tests;
+mod turn;
 
-pub use fault::{ReadFault, ReadKind};
+pub use clauses::read_clauses;
+pub use fault::{ReadFault, ReadKind, ReadStop};
 pub use frames::{Arguments, Bracket, Frame, Next, Refusal, State};
 pub use lexeme::{Lexeme, Magnitude, Mark, Names, Read};
 pub use limits::{INTEGER_OFFSET, MOST_ARGUMENTS, MOST_LEVELS, MOST_NODES, MOST_TOKENS};

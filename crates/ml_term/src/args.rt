@@ -40,4 +40,13 @@ impl<T> ArgsOf<T> {
     {
         self.items.as_slice()
     }
+    /// The items as a vector, 1 to 255 of them.
+    pub fn into_vec(self) -> Vec<T>
+        ensures same { result.items ≡ self }
+        ensures low { 1 ≤ length result.items }
+        ensures high { length result.items ≤ 255 }
+    {
+        let ArgsOf { items } = self;
+        items
+    }
 }

@@ -2,8 +2,8 @@
 ghost use Rattle.std.specs.Prelude.{◌≡◌, IfOk};
 
 use crate::{
-    Args, Decl, Keys, Kind, Name, Pred, Term, compare, is_in_range, is_name, is_valid, key_cmp,
-    nodes_up_to,
+    Args, Decl, Keys, Kind, Name, Pred, Term, Terms, compare, is_in_range, is_name, is_valid,
+    key_cmp, nodes_up_to,
 };
 use std::alloc::{AllocError, Global};
 use std::cmp::Ordering;
@@ -73,6 +73,19 @@ fn copies_of_terms_are_equal(rt: HostRuntime) -> Result<(), Fail> {
     assert_eq!(rt; copy.arity(), 2);
     for (limit, want) in [(0, 1), (3, 4), (4, 5), (5, 5), (100, 5)] {
         assert_eq!(rt; nodes_up_to(&copy, limit), want, "{limit}");
+    }
+    Ok(())
+}
+
+#[test]
+fn lists_of_terms_keep_their_terms(rt: HostRuntime) -> Result<(), Fail> {
+    let alloc = rt.alloc();
+    let list = Terms::from_vec(vec![in alloc; Term::Var(3), Term::Int(-4)]?);
+    let copy = list.copy_of(alloc)?;
+    let terms = Args::new(copy.into_vec()).into_vec();
+    assert!(rt; terms.len() == 2 && list.as_slice().len() == 2);
+    for (a, b) in terms.iter().zip(list.as_slice()) {
+        assert_eq!(rt; compare(a, b), Ordering::Equal);
     }
     Ok(())
 }

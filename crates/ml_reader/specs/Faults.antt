@@ -32,53 +32,54 @@ kind_of token.LeftOutQuote = kind.LeftOutQuote
 abbrev pub fault : ReadKind → ℕ → ReadFault
 fault k place = record { place = place; kind = k }
 
--- the bytes begin with these tokens, some text begins with them, and the next token finds c before it
-pub record Begins (bytes : List ℕ) (xs : List Lexeme) (c : Context) : Type 0 where
-  pub tokens : GoesOn bytes nothing_before xs c
-  pub viable : Viable true xs
-
--- the token t stands behind the tokens xs
-pub record StandsBehind (bytes : List ℕ) (xs : List Lexeme) (c : Context) (t : Token) : Type 0 where
-  pub before : Begins bytes xs c
-  pub here : first_token bytes c.to ≡ Ok t
+-- the next token is t
+pub record IsNext (bytes : List ℕ) (c : Context) (t : Token) : Type 0 where
+  pub found : first_token bytes c.to ≡ Ok t
   pub some : t.kind ≢ Eof
 
--- what may follow: the next token, or any where the next one has a fault or the text ends
-pub data MayFollow (bytes : List ℕ) (c : Context) : Lexeme → Type 0 where
-  next_token : (t : Token) → first_token bytes c.to ≡ Ok t → t.kind ≢ Eof → MayFollow bytes c (lexeme bytes c t)
-  at_end : {y : Lexeme} (t : Token) → first_token bytes c.to ≡ Ok t → t.kind ≡ Eof → MayFollow bytes c y
-  at_fault : {y : Lexeme} {e : TokenFault} → first_token bytes c.to ≡ Err e → MayFollow bytes c y
+-- what may stand next: the next token, or any where that one has a fault or the text ends
+pub data MayBeNext (bytes : List ℕ) (c : Context) : Lexeme → Type 0 where
+  next : (t : Token) → IsNext bytes c t → MayBeNext bytes c (lexeme bytes c t)
+  at_end : {y : Lexeme} (t : Token) → first_token bytes c.to ≡ Ok t → t.kind ≡ Eof → MayBeNext bytes c y
+  at_fault : {y : Lexeme} {e : TokenFault} → first_token bytes c.to ≡ Err e → MayBeNext bytes c y
 
--- behind the token t, which stands behind xs, these levels are open. An operator's name opens one where what follows doesn't
--- make an atom or a functor of it
+-- behind the token t, which stands behind xs, these levels are open. An operator's name opens one where what may stand next
+-- makes neither an atom nor a functor of it
 pub record AreOpen (bytes : List ℕ) (xs : List Lexeme) (c : Context) (t : Token) (ls : List Level) : Type 0 where
-  pub next : Lexeme
-  pub may : MayFollow bytes (behind bytes c t) next
-  pub wants : Wants true (xs ++ lexeme bytes c t ∷ next ∷ []) (next ∷ []) ls
+  pub following : Lexeme
+  pub may : MayBeNext bytes (behind bytes c t) following
+  pub wants : Wants true (xs ++ lexeme bytes c t ∷ following ∷ []) (following ∷ []) ls
 
 -- the tokens end with a bare `-` where a term begins
 abbrev pub EndsInMinus : List Lexeme → Type 0
 EndsInMinus xs = (ls : List Level) × Wants true xs (name false (codes "-") ∷ []) ls
 
--- At a place of the text stands this fault. It has that place, save that a clause with too many nodes is met at its end and
--- has the place of its first token.
-pub data HasFault (bytes : List ℕ) : ℕ → ReadFault → Type 0 where
-  bad_token : {xs : List Lexeme} {c : Context} {e : TokenFault} → Begins bytes xs c → first_token bytes c.to ≡ Err e → HasFault bytes e.place (fault (kind_of e.kind) e.place)
-  too_deep : {xs : List Lexeme} {c : Context} {t : Token} {ls : List Level} → StandsBehind bytes xs c t → AreOpen bytes xs c t ls → MOST_LEVELS < length ls
-      → HasFault bytes t.from (fault kind.TooDeep t.from)
-  many_arguments : {xs : List Lexeme} {c : Context} {t : Token} {ls : List Level} {n : ℕ} → StandsBehind bytes xs c t → AreOpen bytes xs c t (in_argument n ∷ ls) → MOST_ARGUMENTS < n
-      → HasFault bytes t.from (fault kind.ArityTooLarge t.from)
-  long_clause : {xs : List Lexeme} {c : Context} {t : Token} → StandsBehind bytes xs c t → MOST_TOKENS ≤ c.tokens → HasFault bytes t.from (fault kind.ClauseTooLong t.from)
-  large_number : {xs : List Lexeme} {c : Context} {t : Token} → StandsBehind bytes xs c t → t.kind ≡ Number → INTEGER_OFFSET ≤ number_of bytes t
-      → (is_tight c t ≡ true → EndsInMinus xs → ⊥) → HasFault bytes t.from (fault kind.NumberTooLarge t.from)
-  clash : {xs : List Lexeme} {c : Context} {t : Token} → StandsBehind bytes xs c t → (Viable true (xs ++ lexeme bytes c t ∷ []) → ⊥) → Viable false (xs ++ lexeme bytes c t ∷ [])
-      → HasFault bytes t.from (fault kind.PriorityClash t.from)
-  unexpected : {xs : List Lexeme} {c : Context} {t : Token} → StandsBehind bytes xs c t → (Viable false (xs ++ lexeme bytes c t ∷ []) → ⊥)
-      → (Viable true (xs ++ lexeme bytes c t ∷ []) → ⊥) → HasFault bytes t.from (fault kind.Unexpected t.from)
-  cut_off : {xs : List Lexeme} {c : Context} {t : Token} → Begins bytes xs c → first_token bytes c.to ≡ Ok t → t.kind ≡ Eof → ((cs : List Written) → IsText true xs cs → ⊥)
-      → HasFault bytes (length bytes) (fault kind.Unexpected (length bytes))
-  many_nodes : {xs : List Lexeme} {c : Context} {t : Token} {m : Mark} (cs : List Written) (w : Written) → StandsBehind bytes xs c t → lexeme bytes c t ≡ end m
-      → IsText true (xs ++ end m ∷ []) (cs ++ w ∷ []) → MOST_NODES < nodes w.term → HasFault bytes t.from (fault kind.TooManyNodes w.place)
+-- Behind the tokens xs stands this fault, c being what the next token finds before it. It is met at its place, save that a
+-- clause of too many nodes, which has the place of its first token, is met at its end.
+pub data FaultBehind (bytes : List ℕ) (xs : List Lexeme) (c : Context) : ℕ → ReadFault → Type 0 where
+  bad_token : {e : TokenFault} → first_token bytes c.to ≡ Err e → FaultBehind bytes xs c e.place (fault (kind_of e.kind) e.place)
+  too_deep : {t : Token} {ls : List Level} → IsNext bytes c t → AreOpen bytes xs c t ls → MOST_LEVELS < length ls → FaultBehind bytes xs c t.from (fault kind.TooDeep t.from)
+  many_arguments : {t : Token} {ls : List Level} {n : ℕ} → IsNext bytes c t → AreOpen bytes xs c t (in_argument n ∷ ls) → MOST_ARGUMENTS < n
+      → FaultBehind bytes xs c t.from (fault kind.ArityTooLarge t.from)
+  long_clause : {t : Token} → IsNext bytes c t → MOST_TOKENS ≤ c.tokens → FaultBehind bytes xs c t.from (fault kind.ClauseTooLong t.from)
+  large_number : {t : Token} → IsNext bytes c t → t.kind ≡ Number → INTEGER_OFFSET ≤ number_of bytes t → (is_tight c t ≡ true → EndsInMinus xs → ⊥)
+      → FaultBehind bytes xs c t.from (fault kind.NumberTooLarge t.from)
+  clash : {t : Token} → IsNext bytes c t → (Viable true (xs ++ lexeme bytes c t ∷ []) → ⊥) → Viable false (xs ++ lexeme bytes c t ∷ [])
+      → FaultBehind bytes xs c t.from (fault kind.PriorityClash t.from)
+  unexpected : {t : Token} → IsNext bytes c t → (Viable true (xs ++ lexeme bytes c t ∷ []) → ⊥) → (Viable false (xs ++ lexeme bytes c t ∷ []) → ⊥)
+      → FaultBehind bytes xs c t.from (fault kind.Unexpected t.from)
+  cut_off : {t : Token} → first_token bytes c.to ≡ Ok t → t.kind ≡ Eof → ((cs : List Written) → IsText true xs cs → ⊥)
+      → FaultBehind bytes xs c (length bytes) (fault kind.Unexpected (length bytes))
+  many_nodes : {t : Token} {m : Mark} (cs : List Written) (w : Written) → IsNext bytes c t → lexeme bytes c t ≡ end m → IsText true (xs ++ end m ∷ []) (cs ++ w ∷ [])
+      → MOST_NODES < nodes w.term → FaultBehind bytes xs c t.from (fault kind.TooManyNodes w.place)
+
+-- the text has this fault: it stands behind tokens with which some text of the grammar begins
+pub record HasFault (bytes : List ℕ) (met : ℕ) (f : ReadFault) : Type 0 where
+  pub tokens : List Lexeme
+  pub context : Context
+  pub before : GoesOn bytes nothing_before tokens context
+  pub viable : Viable true tokens
+  pub there : FaultBehind bytes tokens context met f
 
 -- the order of faults at one place. Only those of rules and scripts come later, and no two of a token stand at one place
 abbrev pub rank : ReadKind → ℕ

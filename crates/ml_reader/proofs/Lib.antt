@@ -18,3 +18,6 @@ pub mod ReadingSteps
 pub mod OneStop
 pub mod Over
 pub mod Depths
+pub mod ScriptGoals
+pub mod ScriptViews
+pub mod ScriptRuns

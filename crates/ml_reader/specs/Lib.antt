@@ -17,3 +17,7 @@ pub mod Texts
 pub mod Faults
 pub mod Turns
 pub mod TurnsSeen
+pub mod Scripts
+pub mod ScriptTexts
+pub mod ScriptItems
+pub mod ScriptSeen

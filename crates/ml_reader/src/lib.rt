@@ -18,6 +18,9 @@ mod limited;
 mod limits;
 mod operators;
 mod parser;
+mod script;
+mod script_draft;
+mod script_item;
 #[cfg(test)]
 mod tests;
 mod turn;
@@ -29,3 +32,4 @@ pub use lexeme::{Lexeme, Magnitude, Mark, Names, Read};
 pub use limits::{INTEGER_OFFSET, MOST_ARGUMENTS, MOST_LEVELS, MOST_NODES, MOST_TOKENS};
 pub use operators::Sides;
 pub use parser::step;
+pub use script::read_script;

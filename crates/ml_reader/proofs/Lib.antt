@@ -10,6 +10,9 @@ pub mod InFront
 pub mod Keeping
 pub mod Within
 pub mod Staying
+pub mod Beginnings
+pub mod Readings
+pub mod Quiet
 pub mod Blind
 pub mod ExactLaws
 pub mod Views

@@ -13,6 +13,8 @@ pub mod Staying
 pub mod Beginnings
 pub mod Readings
 pub mod Quiet
+pub mod Ends
+pub mod OverTurns
 pub mod Blind
 pub mod ExactLaws
 pub mod Views

@@ -10,6 +10,11 @@ pub mod InFront
 pub mod Keeping
 pub mod Within
 pub mod Staying
+pub mod Beginnings
+pub mod Readings
+pub mod Quiet
+pub mod Ends
+pub mod OverTurns
 pub mod Blind
 pub mod ExactLaws
 pub mod Views

@@ -26,3 +26,5 @@ pub mod Depths
 pub mod ScriptGoals
 pub mod ScriptViews
 pub mod ScriptRuns
+pub mod ScriptSizes
+pub mod ScriptAnswers

@@ -28,3 +28,4 @@ pub mod ScriptViews
 pub mod ScriptRuns
 pub mod ScriptSizes
 pub mod ScriptAnswers
+pub mod ScriptReadings

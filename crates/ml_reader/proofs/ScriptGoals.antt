@@ -3,6 +3,10 @@ use Rattle.std.specs.Prelude.{◌≡◌, ℕ, ◌+◌, ◌<◌, Bool, true, ◌&
 use Rattle.std.specs.List.{list_all}
 use Rattle.std.proofs.Common.{refl, sym, ap, subst, ◌∙◌, arith, append-nil}
 use Rattle.std.proofs.lemmas.Bool.{and_parts, and_from, leb-true, lt-ltb}
+use Rattle.ml_term.specs.Seen.{seen, all_seen}
+use Rattle.ml_term.specs.declared.term.Term.{Term}
+use Rattle.ml_term.specs.declared.term.Term.TheVariants.{Cmp}
+use Rattle.ml_term.proofs.Views.{seen_compound}
 use Rattle.ml_term.specs.Tree.{Tree, Trees, compound, compound_1, no_trees, tree, trees_of, variables, has, firsts, counts_from, is_numbered}
 use Rattle.ml_term.specs.Valid.{is_valid, are_valid}
 use Rattle.ml_term.specs.Names.{is_name}
@@ -61,8 +65,11 @@ goal_inside f t ns h k =
       rises = p.rises;
     })
 
--- one tree
-pub only_one : (ts : List Tree) (t : Tree) → Some t ≡ only_tree ts → ts ≡ t ∷ []
+only_one : (ts : List Tree) (t : Tree) → Some t ≡ only_tree ts → ts ≡ t ∷ []
 only_one [] t e = absurd (cc)
 only_one (u ∷ []) t e = cc
 only_one (u ∷ v ∷ ts) t e = absurd (cc)
+
+-- a compound of one argument
+pub one_argument : (t : Term) (f : List ℕ) (ts : List Term) (u : Tree) → t ≡ Cmp f ts → Some u ≡ only_tree (all_seen ts) → seen t ≡ compound_1 f u
+one_argument t f ts u e h = ap seen e ∙ (seen_compound f ts ∙ ap (λ us. compound f (trees_of us)) (only_one (all_seen ts) u h))

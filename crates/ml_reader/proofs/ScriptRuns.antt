@@ -1,6 +1,6 @@
 -- The run over the clauses gives exactly the script that they are, and else the first of them with which no script goes on.
-use Rattle.std.specs.Prelude.{◌≡◌, ℕ, ◌≤◌, List, [], ◌∷◌, ◌++◌, Option, Some, None, Result, Ok, Err, length, map}
-use Rattle.std.proofs.Common.{refl, sym, ap, subst, ◌∙◌, arith, append_assoc, append-nil, length-append}
+use Rattle.std.specs.Prelude.{◌≡◌, ℕ, ◌≤◌, ◌⊎◌, List, [], ◌∷◌, ◌++◌, Option, Some, None, Result, Ok, Err, length, map}
+use Rattle.std.proofs.Common.{refl, sym, inl, inr, ap, subst, ◌∙◌, arith, append_assoc, append-nil, length-append}
 use Rattle.std.proofs.lemmas.List.{nil_from_length}
 use Rattle.ml_search.specs.Program.{Goal, Last, commit, abort, unless, Script}
 use Rattle.ml_search.specs.declared.limits.TheConstants.{MOST_INFERENCES, GIVEN_INFERENCES}
@@ -197,6 +197,26 @@ only_wrong cs v w h k = same_clause (sym (stops_run cs v h) ∙ stops_run cs w k
 
 pub script_or_wrong : (cs : List Written) (s : Script) (w : Written) → IsScriptOf cs s → IsFirstWrong cs w → ⊥
 script_or_wrong cs s w h k = let e : fine s ≡ bad w = sym (complete h) ∙ stops_run cs w k in cc
+
+either : (cs : List Written) (r : Result Script Written) → run nothing cs ≡ r → ((s : Script) × IsScriptOf cs s) ⊎ ((w : Written) × IsFirstWrong cs w)
+either cs (Ok s) e = inl (s, sound cs s e)
+either cs (Err w) e = inr (w, wrong cs w e)
+
+pub script_unless_wrong : (cs : List Written) → ((s : Script) × IsScriptOf cs s) ⊎ ((w : Written) × IsFirstWrong cs w)
+script_unless_wrong cs = either cs (run nothing cs) refl
+
+-- what the run comes to behind clauses with which it doesn't stop
+goes : (ys : List Written) (s : Script) (xs : List Written) (d : Draft) → run d (xs ++ ys) ≡ Ok s → (t : Script) × (run d xs ≡ Ok t)
+goes ys s [] d h = (finished d, refl)
+goes ys s (x ∷ xs) d h = goes_on (goes ys s xs) (added d (item x)) refl h
+  where
+    goes_on : ((e : Draft) → run e (xs ++ ys) ≡ Ok s → (t : Script) × (run e xs ≡ Ok t)) → (o : Option Draft) → added d (item x) ≡ o → behind o x (xs ++ ys) ≡ Ok s
+        → (t : Script) × (run d (x ∷ xs) ≡ Ok t)
+    goes_on ih (Some e) a k = let i = ih e k in (i.0, went d x xs e a ∙ i.1)
+    goes_on ih None a k = absurd (cc)
+
+pub begins_with_scripts : (cs : List Written) → BeginsScript cs → (s : Script) × IsScriptOf cs s
+begins_with_scripts cs b = let i = goes b.0 b.1 cs nothing (complete b.2) in (i.0, sound cs i.0 i.1)
 
 -- what holds of every script
 many : {cs : List Written} {gs : List Goal} {l : Last} → AreGoals cs gs l → length gs ≤ length cs

@@ -21,6 +21,9 @@ mod parser;
 mod script;
 mod script_draft;
 mod script_item;
+pub mod script_laws;
+#[cfg(test)]
+mod script_tests;
 #[cfg(test)]
 mod tests;
 mod turn;

@@ -65,12 +65,12 @@ fn query(t: Term, names: Names) -> Item
 }
 
 /// `:- commit_unless(T).` with the names of its variables.
-fn condition(t: Term, names: Names) -> Item
-    requires { IsGoalIfCallable (seen t) names }
-    ensures { item_seen result ≡ condition_of (seen t) names }
+fn condition(goal: Term, names: Names) -> Item
+    requires { IsGoalIfCallable (seen goal) names }
+    ensures { item_seen result ≡ condition_of (seen goal) names }
 {
-    if is_callable(&t) {
-        Item::Ending(Last::Unless(Goal::new(t, names)))
+    if is_callable(&goal) {
+        Item::Ending(Last::Unless(Goal::new(goal, names)))
     } else {
         Item::Other
     }

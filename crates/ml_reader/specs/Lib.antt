@@ -21,3 +21,4 @@ pub mod Scripts
 pub mod ScriptTexts
 pub mod ScriptItems
 pub mod ScriptSeen
+pub mod ScriptRows

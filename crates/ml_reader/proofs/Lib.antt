@@ -10,11 +10,14 @@ pub mod InFront
 pub mod Keeping
 pub mod Within
 pub mod Staying
+pub mod Lows
 pub mod Beginnings
 pub mod Readings
 pub mod Quiet
 pub mod Ends
 pub mod OverTurns
+pub mod FirstFaults
+pub mod Turning
 pub mod Blind
 pub mod ExactLaws
 pub mod Views

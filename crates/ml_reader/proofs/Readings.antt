@@ -12,6 +12,7 @@ use Rattle.ml_reader.specs.Limits.{levels}
 use Rattle.ml_reader.specs.declared.limits.TheConstants.{MOST_LEVELS, MOST_TOKENS}
 use Rattle.ml_reader.proofs.Open.{run_append, viable}
 use Rattle.ml_reader.proofs.Keeping.{Fine, Kept, done, kept, AreGood, IsGood}
+use Rattle.ml_reader.proofs.Lows.{height, levels_low}
 use Rattle.ml_reader.proofs.Beginnings.{count, goes_further, counted}
 
 -- the parser has taken the tokens xs within the limits and stands in s, and the next token finds c before it
@@ -21,7 +22,11 @@ pub record Reading (bytes : List ℕ) (xs : List Lexeme) (c : Context) (s : Stat
   pub kept : Kept (want (root [])) xs
   pub good : AreGood xs
   pub short : IsTrue (are_short 0 xs)
-  pub few : levels s ≤ MOST_LEVELS
+  pub low : height s ≤ MOST_LEVELS
+
+-- few levels are open
+pub reading_few : {bytes : List ℕ} {xs : List Lexeme} {c : Context} {s : State} → Reading bytes xs c s → levels s ≤ MOST_LEVELS
+reading_few {s = s} r = let l = r.low in let m = levels_low s in omega arith
 
 abbrev fine : State → Next
 fine s = Ok s
@@ -108,9 +113,9 @@ kept_at r (y ∷ xs) x zs (kept {r = q} f e k) =
 
 module _ (bytes : List ℕ) where
   pub reading_starts : Reading bytes [] nothing_before (want (root []))
-  reading_starts = record { goes = no_token; parsed = refl; kept = done; good = tt; short = refl; few = omega arith }
+  reading_starts = record { goes = no_token; parsed = refl; kept = done; good = tt; short = refl; low = omega arith }
 
-  pub reading_goes_on : {xs : List Lexeme} {c d : Context} {s r : State} {x : Lexeme} → Reading bytes xs c s → GoesOn bytes nothing_before (xs ++ x ∷ []) d → Fine s x → step true s x ≡ Ok r → levels r ≤ MOST_LEVELS → c.tokens < MOST_TOKENS → IsGood x
+  pub reading_goes_on : {xs : List Lexeme} {c d : Context} {s r : State} {x : Lexeme} → Reading bytes xs c s → GoesOn bytes nothing_before (xs ++ x ∷ []) d → Fine s x → step true s x ≡ Ok r → height r ≤ MOST_LEVELS → c.tokens < MOST_TOKENS → IsGood x
       → Reading bytes (xs ++ x ∷ []) d r
   reading_goes_on {xs} {c} {d} {s} {r} {x} h g f e l n i = record {
     goes = g;
@@ -118,7 +123,7 @@ module _ (bytes : List ℕ) where
     kept = kept_more (want (root [])) s r xs x h.kept h.parsed f e;
     good = good_more xs x h.good i;
     short = short_more 0 xs x h.short (let j = counted bytes h.goes in omega arith);
-    few = l;
+    low = l;
   }
 
   pub reading_viable : {xs : List Lexeme} {c : Context} {s : State} → Reading bytes xs c s → Viable true xs

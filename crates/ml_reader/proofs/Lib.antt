@@ -18,6 +18,11 @@ pub mod Ends
 pub mod OverTurns
 pub mod FirstFaults
 pub mod Turning
+pub mod Firsts
+pub mod Numbering
+pub mod WellRead
+pub mod Values
+pub mod TextLaws
 pub mod Blind
 pub mod ExactLaws
 pub mod Views

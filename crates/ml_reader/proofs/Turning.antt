@@ -32,7 +32,7 @@ use Rattle.ml_reader.proofs.Sound.{sound}
 use Rattle.ml_reader.proofs.ExactLaws.{stuck, right_kind, no_text_yet}
 use Rattle.ml_reader.proofs.Paths.{opened, length_opened, path_before}
 use Rattle.ml_reader.proofs.InFront.{path_of_wants, no_wants, wants_before, minus_read, ends_in_minus}
-use Rattle.ml_reader.proofs.Keeping.{AreFew, is_moderate, Fine, IsGood}
+use Rattle.ml_reader.proofs.Keeping.{AreFew, is_moderate, Fine}
 use Rattle.ml_reader.proofs.Ends.{IsEnd, EndsClause, step_ends}
 use Rattle.ml_reader.proofs.Lows.{height, IsOther, IsLow, step_low}
 use Rattle.ml_reader.proofs.Beginnings.{Stand, goes_further, same_token, behind_last, next_is, not_eof, not_found, sign_is, first_sign_is}
@@ -114,7 +114,7 @@ module _ (bytes : List ℕ) (stand : Stand bytes) {xs : List Lexeme} {c : Contex
   Says (wrong f) = HasFirstFault bytes f
 
   -- one token, with which the name before it opens no level past the limit
-  module _ (t : Token) (n : IsNext bytes c t) (good : IsGood (lexeme bytes c t)) (shallow : IsDeepName s (lexeme bytes c t) → ⊥) where
+  module _ (t : Token) (n : IsNext bytes c t) (shallow : IsDeepName s (lexeme bytes c t) → ⊥) where
     read_on : {s' : State} → step true s (lexeme bytes c t) ≡ Ok s' → read true (xs ++ lexeme bytes c t ∷ []) ≡ Ok s'
     read_on i = one_more (Ok (want (root []))) xs s (lexeme bytes c t) r.parsed ∙ i
 
@@ -309,7 +309,7 @@ module _ (bytes : List ℕ) (stand : Stand bytes) {xs : List Lexeme} {c : Contex
     goes_said : (s' : State) → step true s (lexeme bytes c t) ≡ Ok s' → levels s' ≤ MOST_LEVELS → nat_le MOST_TOKENS c.tokens ≡ false → is_lone s (lexeme bytes c t) ≡ false → IsTrue (is_moderate (Ok s')) → Said (goes s')
     goes_said s' i l e a m = (
       lexeme bytes c t,
-      reading_goes_on bytes r (goes_further bytes t r.goes n) (record { levels = few_before; moderate = subst (λ n. IsTrue (is_moderate n)) (sym i) m; alone = a }) i (low_height s' l (low_behind i)) (leb-false MOST_TOKENS c.tokens e) good,
+      reading_goes_on bytes r (goes_further bytes t r.goes n) (record { levels = few_before; moderate = subst (λ n. IsTrue (is_moderate n)) (sym i) m; alone = a }) i (low_height s' l (low_behind i)) (leb-false MOST_TOKENS c.tokens e),
     )
       where
         low_height : (s' : State) → levels s' ≤ MOST_LEVELS → IsLow (lexeme bytes c t) (Ok s') → height s' ≤ MOST_LEVELS
@@ -366,38 +366,37 @@ module _ (bytes : List ℕ) (stand : Stand bytes) {xs : List Lexeme} {c : Contex
     step_said (Err k) i j = err_said k i
     step_said (Ok s') i j = if_cases (λ q. Said (checked (here_at c t) (is_lone s (lexeme bytes c t)) q)) (has_many s') (Err ManyArguments) (Ok s') (λ m. many_said s' i m) (λ m. fine_said s' i j m)
 
+  token_says : (t : Token) → IsNext bytes c t → Says (taken bytes (behind bytes c t) (limited (here_at c t) s (lexeme bytes c t)))
+  token_says t n =
+      if_cases (λ o. Says (taken bytes (behind bytes c t) o)) (makes_prefix s (lexeme bytes c t) && name_too_deep s) (fault_at TooDeep c.last) _
+      (λ e. let h = parts (makes_prefix s (lexeme bytes c t)) (name_too_deep s) e in deep_first bytes stand r (lexeme bytes c t) (next t n) (record { deep = h.1; prefix = h.0 }))
+      (λ e. step_said t n (λ d. true≢false (sym (and_from (makes_prefix s (lexeme bytes c t)) (name_too_deep s) d.prefix d.deep) ∙ e)) (step true s (lexeme bytes c t)) refl (step_ends s (lexeme bytes c t)))
+
+  end_says : (t : Token) → first_token bytes c.to ≡ Ok t → t.kind ≡ Eof → Says (ended (length bytes) c s)
+  end_says t h k =
+      if_cases Says (name_too_deep s) (wrong (fault TooDeep c.last)) _
+      (λ e. deep_first bytes stand r (unknown 0) (at_end t h k) (deep_before_variable s e))
+      (λ e. if_cases Says (is_between s) whole (wrong (fault Unexpected (length bytes)))
+        (λ b. between s b refl)
+        (λ b. end_first bytes stand r t h k e (no_text_yet xs s r.parsed (λ cs i. true≢false (sym (ap is_between i) ∙ b)))))
+    where
+      between : (s' : State) → is_between s' ≡ true → s ≡ s' → Says whole
+      between (want (root cs)) b e = (cs, t, e, h, k)
+      between (want (f ▹ fs)) b e = absurd (true≢false (sym b))
+      between (fresh j fs) b e = absurd (true≢false (sym b))
+      between (word m f fs) b e = absurd (true≢false (sym b))
+      between (have p u fs) b e = absurd (true≢false (sym b))
+
   -- what a turn comes to
-  module _ (good : (t : Token) → IsNext bytes c t → IsGood (lexeme bytes c t)) where
-    token_says : (t : Token) → IsNext bytes c t → Says (taken bytes (behind bytes c t) (limited (here_at c t) s (lexeme bytes c t)))
-    token_says t n =
-        if_cases (λ o. Says (taken bytes (behind bytes c t) o)) (makes_prefix s (lexeme bytes c t) && name_too_deep s) (fault_at TooDeep c.last) _
-        (λ e. let h = parts (makes_prefix s (lexeme bytes c t)) (name_too_deep s) e in deep_first bytes stand r (lexeme bytes c t) (next t n) (record { deep = h.1; prefix = h.0 }))
-        (λ e. step_said t n (good t n) (λ d. true≢false (sym (and_from (makes_prefix s (lexeme bytes c t)) (name_too_deep s) d.prefix d.deep) ∙ e)) (step true s (lexeme bytes c t)) refl (step_ends s (lexeme bytes c t)))
-
-    end_says : (t : Token) → first_token bytes c.to ≡ Ok t → t.kind ≡ Eof → Says (ended (length bytes) c s)
-    end_says t h k =
-        if_cases Says (name_too_deep s) (wrong (fault TooDeep c.last)) _
-        (λ e. deep_first bytes stand r (unknown 0) (at_end t h k) (deep_before_variable s e))
-        (λ e. if_cases Says (is_between s) whole (wrong (fault Unexpected (length bytes)))
-          (λ b. between s b refl)
-          (λ b. end_first bytes stand r t h k e (no_text_yet xs s r.parsed (λ cs i. true≢false (sym (ap is_between i) ∙ b)))))
-      where
-        between : (s' : State) → is_between s' ≡ true → s ≡ s' → Says whole
-        between (want (root cs)) b e = (cs, t, e, h, k)
-        between (want (f ▹ fs)) b e = absurd (true≢false (sym b))
-        between (fresh j fs) b e = absurd (true≢false (sym b))
-        between (word m f fs) b e = absurd (true≢false (sym b))
-        between (have p u fs) b e = absurd (true≢false (sym b))
-
-    pub turn_says : Says (turned bytes c s)
-    turn_says = go (first_token bytes c.to) refl
-      where
-        go : (q : Result Token TokenFault) → first_token bytes c.to ≡ q → Says (found bytes c s q)
-        go (Err e) h =
-            if_cases (λ f. HasFirstFault bytes f) (name_too_deep s) (fault TooDeep c.last) (fault (kind_of e.kind) e.place)
-            (λ d. deep_first bytes stand r (unknown 0) (at_fault h) (deep_before_variable s d))
-            (λ d. token_fault_first bytes stand r e h d)
-        go (Ok t) h =
-            if_cases Says (is_eof t.kind) (ended (length bytes) c s) _
-            (λ e. end_says t h (eof_is t.kind e))
-            (λ e. token_says t (record { found = h; some = not_eof_is t.kind e }))
+  pub turn_says : Says (turned bytes c s)
+  turn_says = go (first_token bytes c.to) refl
+    where
+      go : (q : Result Token TokenFault) → first_token bytes c.to ≡ q → Says (found bytes c s q)
+      go (Err e) h =
+          if_cases (λ f. HasFirstFault bytes f) (name_too_deep s) (fault TooDeep c.last) (fault (kind_of e.kind) e.place)
+          (λ d. deep_first bytes stand r (unknown 0) (at_fault h) (deep_before_variable s d))
+          (λ d. token_fault_first bytes stand r e h d)
+      go (Ok t) h =
+          if_cases Says (is_eof t.kind) (ended (length bytes) c s) _
+          (λ e. end_says t h (eof_is t.kind e))
+          (λ e. token_says t (record { found = h; some = not_eof_is t.kind e }))

@@ -44,6 +44,12 @@ last_front r (x ∷ z ∷ xs) y s e = go (step true r x) (λ q. last_front q (z 
     go (Ok q) h e = h q e
     go (Err k) h e = absurd (not_both e)
 
+last_fails : (n : Next) (xs : List Lexeme) (y : Lexeme) (k : Fault) → run true n xs ≡ Err k → last_path n (xs ++ y ∷ []) ≡ None
+last_fails (Ok r) [] y k e = absurd (not_both (sym e))
+last_fails (Ok r) (x ∷ []) y k e = last_fails (step true r x) [] y k e
+last_fails (Ok r) (x ∷ z ∷ xs) y k e = last_fails (step true r x) (z ∷ xs) y k e
+last_fails (Err j) xs y k e = refl
+
 module _ (v : Option (List Level)) where
   abbrev Leads : State → List Lexeme → Type 0
   Leads r zs = v ≡ last_path (Ok r) zs
@@ -66,6 +72,13 @@ module _ (v : Option (List Level)) where
 -- the levels that are open in front of a token are those of the parser
 pub path_of_wants : (xs : List Lexeme) (y : Lexeme) (s : State) (ls : List Level) → read true xs ≡ Ok s → Wants true (xs ++ y ∷ []) (y ∷ []) ls → path_before s y ≡ Some ls
 path_of_wants xs y s ls e w = path_of_end (path_before s y) (xs ++ y ∷ []) y ls (sym (last_front (want (root [])) xs y s e)) w
+
+-- behind tokens that the parser refuses no term is wanted
+pub no_wants : (xs : List Lexeme) (y : Lexeme) (k : Fault) (ls : List Level) → read true xs ≡ Err k → Wants true (xs ++ y ∷ []) (y ∷ []) ls → ⊥
+no_wants xs y k ls e w = none_some (sym (last_fails (Ok (want (root []))) xs y k e) ∙ path_of_end (last_path (Ok (want (root []))) (xs ++ y ∷ [])) (xs ++ y ∷ []) y ls refl w)
+  where
+    none_some : {ls : List Level} → None ≡ Some ls → ⊥
+    none_some e = cc
 
 module _ (v : Next) where
   abbrev Runs : State → List Lexeme → Type 0

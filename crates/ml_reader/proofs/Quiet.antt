@@ -27,7 +27,7 @@ use Rattle.ml_reader.proofs.Wanting.{same_some}
 use Rattle.ml_reader.proofs.InFront.{path_of_wants, ends_in_minus}
 use Rattle.ml_reader.proofs.Keeping.{AreFew, is_moderate, Fine, Kept, kept_head}
 use Rattle.ml_reader.proofs.Beginnings.{Stand, same_token, not_found, next_is, not_eof, behind_to, behind_last, Along, same, longer, shorter, along, goes_up, counted, goes_nowhere, First, first_of_them}
-use Rattle.ml_reader.proofs.Readings.{Reading, same_state, one_more, short_at, KeptAt, kept_at, split_run}
+use Rattle.ml_reader.proofs.Readings.{Reading, reading_few, same_state, one_more, short_at, KeptAt, kept_at, split_run}
 
 -- levels past the limit in front of a token are those of a name that is a prefix operator there
 pub record IsDeepName (s : State) (y : Lexeme) : Type 0 where
@@ -86,12 +86,12 @@ deep_path (word m f fs) y d = go (prefix_of f) refl d.deep
 deep_path (have p t fs) y d = absurd (true≢false (sym d.deep))
 
 -- an argument that a term is wanted in is the innermost frame
-record InArgument (s : State) (n : ℕ) : Type 0 where
-  functor : List ℕ
-  trees : Trees
-  below : Stack
-  state : s ≡ want (arguments functor trees ▹ below)
-  count : 1 + arity trees ≡ n
+pub record InArgument (s : State) (n : ℕ) : Type 0 where
+  pub functor : List ℕ
+  pub trees : Trees
+  pub below : Stack
+  pub state : s ≡ want (arguments functor trees ▹ below)
+  pub count : 1 + arity trees ≡ n
 
 no_operator : (k : Bool) (i : Option Operator) (fs : Stack) (n : ℕ) (ls : List Level) → prefix_path k i fs ≡ Some (in_argument n ∷ ls) → ⊥
 no_operator true (Some o) fs n ls e = go (fits true o.priority (limit fs)) e
@@ -102,7 +102,7 @@ no_operator true (Some o) fs n ls e = go (fits true o.priority (limit fs)) e
 no_operator true None fs n ls e = absurd cc
 no_operator false i fs n ls e = absurd cc
 
-in_argument_is : (s : State) (y : Lexeme) (n : ℕ) (ls : List Level) → path_before s y ≡ Some (in_argument n ∷ ls) → InArgument s n
+pub in_argument_is : (s : State) (y : Lexeme) (n : ℕ) (ls : List Level) → path_before s y ≡ Some (in_argument n ∷ ls) → InArgument s n
 in_argument_is (want (arguments f ts ▹ fs)) y n ls e = record { functor = f; trees = ts; below = fs; state = refl; count = first (same_some e) }
   where
     first : {a b : ℕ} {ks ms : List Level} → in_argument a ∷ ks ≡ in_argument b ∷ ms → a ≡ b
@@ -114,7 +114,7 @@ in_argument_is (word m f fs) y n ls e = absurd (no_operator (makes_prefix (word 
 in_argument_is (have p t fs) y n ls e = absurd cc
 
 -- a number past the limit is one with the bare `-` before it
-lone_is_joined : (s : State) (k : Bool) (n : ℕ) → is_lone s (number k n) ≡ false → INTEGER_OFFSET ≤ n → (f : List ℕ) × (fs : Stack) × (s ≡ word true f fs) × (k ≡ true)
+pub lone_is_joined : (s : State) (k : Bool) (n : ℕ) → is_lone s (number k n) ≡ false → INTEGER_OFFSET ≤ n → (f : List ℕ) × (fs : Stack) × (s ≡ word true f fs) × (k ≡ true)
 lone_is_joined s k n e l = go s (both (nat_le INTEGER_OFFSET n) (joined s k) (le-leb INTEGER_OFFSET n l) e)
   where
     both : (a j : Bool) → a ≡ true → (a && not j) ≡ false → j ≡ true
@@ -189,7 +189,7 @@ module _ (bytes : List ℕ) (stand : Stand bytes) where
         at_last : c ≡ behind bytes d t → at_it.behind_it ≡ s → Where bytes xs c s t.from (fault TooDeep t.from)
         at_last e i =
             let q : t.from ≡ c.last = sym (behind_last bytes d t n.some) ∙ sym (ap (λ c. c.last) e) in
-            pending o.following (subst (λ c. MayBeNext bytes c o.following) (sym e) o.may) (deep_name s o.following ls r.few (subst (λ s. path_before s o.following ≡ Some ls) i (path_behind ls o)) l) q (ap (λ p. fault TooDeep p) q)
+            pending o.following (subst (λ c. MayBeNext bytes c o.following) (sym e) o.may) (deep_name s o.following ls (reading_few r) (subst (λ s. path_before s o.following ≡ Some ls) i (path_behind ls o)) l) q (ap (λ p. fault TooDeep p) q)
 
         within : (z : Lexeme) → o.following ≡ z → Fine at_it.behind_it z → ⊥
         within z e f = let h : length ls ≤ MOST_LEVELS = subst AreFew (sym (ap (λ z. path_before at_it.behind_it z) e) ∙ path_behind ls o) f.levels in omega arith

@@ -11,7 +11,8 @@ use Rattle.ml_reader.specs.Faults.{IsNext}
 use Rattle.ml_reader.specs.Limits.{levels}
 use Rattle.ml_reader.specs.declared.limits.TheConstants.{MOST_LEVELS, MOST_TOKENS}
 use Rattle.ml_reader.proofs.Open.{run_append, viable}
-use Rattle.ml_reader.proofs.Keeping.{Fine, Kept, done, kept, AreGood, IsGood}
+use Rattle.ml_reader.proofs.Keeping.{Fine, Kept, done, kept}
+use Rattle.ml_reader.proofs.Lows.{height, levels_low}
 use Rattle.ml_reader.proofs.Beginnings.{count, goes_further, counted}
 
 -- the parser has taken the tokens xs within the limits and stands in s, and the next token finds c before it
@@ -19,9 +20,12 @@ pub record Reading (bytes : List ℕ) (xs : List Lexeme) (c : Context) (s : Stat
   pub goes : GoesOn bytes nothing_before xs c
   pub parsed : read true xs ≡ Ok s
   pub kept : Kept (want (root [])) xs
-  pub good : AreGood xs
   pub short : IsTrue (are_short 0 xs)
-  pub few : levels s ≤ MOST_LEVELS
+  pub low : height s ≤ MOST_LEVELS
+
+-- few levels are open
+pub reading_few : {bytes : List ℕ} {xs : List Lexeme} {c : Context} {s : State} → Reading bytes xs c s → levels s ≤ MOST_LEVELS
+reading_few {s = s} r = let l = r.low in let m = levels_low s in omega arith
 
 abbrev fine : State → Next
 fine s = Ok s
@@ -56,10 +60,6 @@ one_more n xs s x e = run_append true n xs (x ∷ []) ∙ ap (λ m. run true m (
 kept_more : (r s s' : State) (xs : List Lexeme) (x : Lexeme) → Kept r xs → run true (Ok r) xs ≡ Ok s → Fine s x → step true s x ≡ Ok s' → Kept r (xs ++ x ∷ [])
 kept_more r s s' [] x done e f i = subst (λ r. Kept r (x ∷ [])) (sym (same_state e)) (kept f i done)
 kept_more r s s' (y ∷ xs) x (kept {r = q} g j k) e f i = kept g j (kept_more q s s' xs x k (sym (ap (λ n. run true n xs) j) ∙ e) f i)
-
-good_more : (xs : List Lexeme) (x : Lexeme) → AreGood xs → IsGood x → AreGood (xs ++ x ∷ [])
-good_more [] x g h = (h, tt)
-good_more (y ∷ xs) x g h = (g.0, good_more xs x g.1 h)
 
 both : (a b : Bool) → IsTrue a → IsTrue b → IsTrue (a && b)
 both true b e e' = e'
@@ -108,17 +108,16 @@ kept_at r (y ∷ xs) x zs (kept {r = q} f e k) =
 
 module _ (bytes : List ℕ) where
   pub reading_starts : Reading bytes [] nothing_before (want (root []))
-  reading_starts = record { goes = no_token; parsed = refl; kept = done; good = tt; short = refl; few = omega arith }
+  reading_starts = record { goes = no_token; parsed = refl; kept = done; short = refl; low = omega arith }
 
-  pub reading_goes_on : {xs : List Lexeme} {c d : Context} {s r : State} {x : Lexeme} → Reading bytes xs c s → GoesOn bytes nothing_before (xs ++ x ∷ []) d → Fine s x → step true s x ≡ Ok r → levels r ≤ MOST_LEVELS → c.tokens < MOST_TOKENS → IsGood x
+  pub reading_goes_on : {xs : List Lexeme} {c d : Context} {s r : State} {x : Lexeme} → Reading bytes xs c s → GoesOn bytes nothing_before (xs ++ x ∷ []) d → Fine s x → step true s x ≡ Ok r → height r ≤ MOST_LEVELS → c.tokens < MOST_TOKENS
       → Reading bytes (xs ++ x ∷ []) d r
-  reading_goes_on {xs} {c} {d} {s} {r} {x} h g f e l n i = record {
+  reading_goes_on {xs} {c} {d} {s} {r} {x} h g f e l n = record {
     goes = g;
     parsed = one_more (Ok (want (root []))) xs s x h.parsed ∙ e;
     kept = kept_more (want (root [])) s r xs x h.kept h.parsed f e;
-    good = good_more xs x h.good i;
     short = short_more 0 xs x h.short (let j = counted bytes h.goes in omega arith);
-    few = l;
+    low = l;
   }
 
   pub reading_viable : {xs : List Lexeme} {c : Context} {s : State} → Reading bytes xs c s → Viable true xs

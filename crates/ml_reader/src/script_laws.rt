@@ -3,7 +3,8 @@ ghost use Rattle.std.specs.Prelude.{◌≡◌, ◌⊎◌, ℕ, List};
 ghost use Rattle.ml_search.specs.Program.{Script};
 ghost use Rattle.ml_reader.specs.Lexemes.{Written};
 ghost use Rattle.ml_reader.specs.Scripts.{BeginsScript, IsFirstWrong, IsScriptOf};
-ghost use Rattle.ml_reader.specs.ScriptTexts.{IsScript};
+ghost use Rattle.ml_reader.specs.ScriptTexts.{HasScriptFault, IsScript};
+ghost use Rattle.ml_reader.specs.declared.fault.ReadFault.{ReadFault};
 
 /// Clauses are at most one script.
 pub fn clauses_are_one_script()
@@ -22,7 +23,9 @@ pub fn a_script_begins_with_scripts()
     ensures { (cs : List Written) → BeginsScript cs → (s : Script) × IsScriptOf cs s }
 {}
 
-/// A text is at most one script.
-pub fn a_text_is_one_script()
-    ensures { (bytes : List ℕ) (s t : Script) → IsScript bytes s → IsScript bytes t → s ≡ t }
+/// A text is at most one script, and has at most one first fault as a script, but not both.
+pub fn a_text_is_one_script_or_has_one_fault()
+    ensures script { (bytes : List ℕ) (s t : Script) → IsScript bytes s → IsScript bytes t → s ≡ t }
+    ensures fault { (bytes : List ℕ) (f g : ReadFault) → HasScriptFault bytes f → HasScriptFault bytes g → f ≡ g }
+    ensures not_both { (bytes : List ℕ) (s : Script) (f : ReadFault) → IsScript bytes s → HasScriptFault bytes f → ⊥ }
 {}

@@ -16,6 +16,11 @@ pub record Stand (bytes : List ℕ) : Type 0 where
   pub token : (at : ℕ) (t : Token) → at ≤ length bytes → first_token bytes at ≡ Ok t → StandsIn bytes at t
   pub fault : (at : ℕ) (f : TokenFault) → at ≤ length bytes → first_token bytes at ≡ Err f → (at ≤ f.place) × (f.place < length bytes)
 
+-- by the law of tokens
+pub stand_by : ((bytes : List ℕ) (at : ℕ) (t : Token) → at ≤ length bytes → first_token bytes at ≡ Ok t → StandsIn bytes at t)
+    → ((bytes : List ℕ) (at : ℕ) (f : TokenFault) → at ≤ length bytes → first_token bytes at ≡ Err f → (at ≤ f.place) × (f.place < length bytes)) → (bytes : List ℕ) → Stand bytes
+stand_by token fault bytes = record { token = token bytes; fault = fault bytes }
+
 abbrev found : Token → Result Token TokenFault
 found t = Ok t
 

@@ -1,10 +1,12 @@
 -- The levels of a vector of frames, and the nodes of what isn't a clause's end.
-use Rattle.std.specs.Prelude.{◌≡◌, ℕ, ◌+◌, List, [], ◌∷◌, length}
-use Rattle.std.proofs.Common.{refl, arith}
+use Rattle.std.specs.Prelude.{◌≡◌, ℕ, ◌+◌, ◌==◌, Bool, false, List, [], ◌∷◌, length}
+use Rattle.std.proofs.Common.{refl, sym, ◌∙◌, arith}
+use Rattle.std.proofs.lemmas.Bool.{ne_eqb}
 use Rattle.ml_reader.specs.Parser as P
 use Rattle.ml_reader.specs.Parser.{◌▹◌}
 use Rattle.ml_reader.specs.Frames.{frame_seen, stack_on, stack, state_seen}
 use Rattle.ml_reader.specs.Limits.{depth, goes, sized}
+use Rattle.ml_reader.specs.Turns.{is_between}
 use Rattle.ml_reader.specs.declared.frames.Frame.{Frame}
 use Rattle.ml_reader.specs.declared.frames.State.{State}
 use Rattle.ml_reader.specs.declared.frames.State.TheVariants as S
@@ -31,3 +33,12 @@ sized_seen (S.Want fs) = unfinished fs.items
 sized_seen (S.Fresh k fs) = refl
 sized_seen (S.Word m f fs) = refl
 sized_seen (S.Have p t fs) = refl
+
+-- the parser stands between clauses where it has no frames
+between_on : (fs : List Frame) (g : P.Frame) (gs : P.Stack) → is_between (P.want (stack_on fs (g ▹ gs))) ≡ false
+between_on [] g gs = refl
+between_on (f ∷ fs) g gs = between_on fs (frame_seen f) (g ▹ gs)
+
+pub between_stack : (fs : List Frame) → is_between (P.want (stack fs)) ≡ (length fs == 0)
+between_stack [] = refl
+between_stack (f ∷ fs) = between_on fs (frame_seen f) (P.root []) ∙ sym (ne_eqb (length (f ∷ fs)) 0 (λ e. omega arith))

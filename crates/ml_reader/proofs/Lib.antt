@@ -23,6 +23,8 @@ pub mod Numbering
 pub mod WellRead
 pub mod Values
 pub mod TextLaws
+pub mod Contexts
+pub mod Loops
 pub mod Blind
 pub mod ExactLaws
 pub mod Views

@@ -109,7 +109,7 @@ turned_before (c ∷ cs) us = turned_before cs (c ∷ us) ∙ (sym (append_assoc
 module _ (bytes : List ℕ) (stand : Stand bytes) {xs : List Lexeme} {c : Context} {s : State} (r : Reading bytes xs c s) where
   -- what a turn says
   abbrev pub Says : Turned → Type 0
-  Says (on d s') = (x : Lexeme) × Reading bytes (xs ++ x ∷ []) d s'
+  Says (on d s') = (t : Token) × IsNext bytes c t × (d ≡ behind bytes c t) × Reading bytes (xs ++ lexeme bytes c t ∷ []) d s'
   Says whole = (cs : List Written) × (t : Token) × (s ≡ want (root cs)) × (first_token bytes c.to ≡ Ok t) × (t.kind ≡ Eof)
   Says (wrong f) = HasFirstFault bytes f
 
@@ -308,7 +308,9 @@ module _ (bytes : List ℕ) (stand : Stand bytes) {xs : List Lexeme} {c : Contex
     -- it is taken
     goes_said : (s' : State) → step true s (lexeme bytes c t) ≡ Ok s' → levels s' ≤ MOST_LEVELS → nat_le MOST_TOKENS c.tokens ≡ false → is_lone s (lexeme bytes c t) ≡ false → IsTrue (is_moderate (Ok s')) → Said (goes s')
     goes_said s' i l e a m = (
-      lexeme bytes c t,
+      t,
+      n,
+      refl,
       reading_goes_on bytes r (goes_further bytes t r.goes n) (record { levels = few_before; moderate = subst (λ n. IsTrue (is_moderate n)) (sym i) m; alone = a }) i (low_height s' l (low_behind i)) (leb-false MOST_TOKENS c.tokens e),
     )
       where

@@ -13,6 +13,7 @@ use crate::fault::ReadStop;
 use crate::frames::State;
 use crate::lexeme::Read;
 use crate::turn::{Turn, next_turn};
+use ml_token::token_laws::tokens_stand_in_their_text;
 use std::alloc::Global;
 
 /// The clauses of a text, in its order. A text has at most one list of clauses, and exactly where it has none it has a first
@@ -27,6 +28,7 @@ pub fn read_clauses(alloc: Global, bytes: &[u8]) -> Result<Vec<Read>, ReadStop>
     ensures complete { (cs : List Written) → IsRead bytes.now cs → MatchResult result (λ clauses. map read_seen clauses.items ≡ cs) (λ stop. stop ≡ read_stop.OutOfMemory) }
     ensures first { (f : ReadFault) → HasFirstFault bytes.now f → (result ≡ Err (read_stop.Fault f)) ⊎ (result ≡ Err read_stop.OutOfMemory) }
 {
+    tokens_stand_in_their_text();
     let mut clauses = Vec::new(alloc);
     let mut context = Context::new(alloc);
     let mut state = State::Want(Vec::new(alloc));

@@ -65,7 +65,7 @@ fn is_between(state: &State) -> bool
     ensures { result ≡ is_between_clauses (state_seen state.now) }
 {
     match state {
-        State::Want(frames) => frames.is_empty(),
+        State::Want(frames) => frames.as_slice().is_empty(),
         State::Fresh(_, _) => false,
         State::Word(_, _, _) => false,
         State::Have(_, _, _) => false,

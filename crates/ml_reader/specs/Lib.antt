@@ -14,3 +14,11 @@ pub mod Limits
 pub mod LimitsSeen
 pub mod Levels
 pub mod Texts
+pub mod Faults
+pub mod Turns
+pub mod TurnsSeen
+pub mod Scripts
+pub mod ScriptTexts
+pub mod ScriptItems
+pub mod ScriptSeen
+pub mod ScriptRows

@@ -28,8 +28,5 @@ pub mod Loops
 pub mod Blind
 pub mod ExactLaws
 pub mod Views
-pub mod ReadingLaws
-pub mod ReadingSteps
-pub mod OneStop
 pub mod Over
 pub mod Depths

@@ -224,3 +224,31 @@ module _ (bytes : List ℕ) where
         go (inl a) (inr b) = absurd (let e = b.0 in omega arith)
         go (inr a) (inl b) = absurd (let e = a.0 in omega arith)
         go (inr a) (inr b) = same_fault i.met f g (subst (λ n. HasFault bytes n f) a.0 h.there) i.there (same_kind f.kind g.kind (let l = a.1 in let m = b.1 in omega arith))
+
+    -- a text is read, or has a first fault
+    abbrev pub IsTold : Type 0
+    IsTold = ((cs : List Written) × IsRead bytes cs) ⊎ ((f : ReadFault) × HasFirstFault bytes f)
+
+    told : length bytes < 2 ^ 32 → (n : ℕ) {xs : List Lexeme} {c : Context} {s : State} → Reading bytes xs c s → c.to ≤ length bytes → length bytes ≤ n + c.to → IsTold
+    told short zero {xs} {c} {s} r l m = go (turned bytes c s) (turn_says bytes stand r)
+      where
+        go : (u : Turned) → Says bytes stand r u → IsTold
+        go (on d s') h = absurd (let k = stand.token c.to h.0 l h.1.found in let a = k.behind in let b = k.some h.1.some in let w = k.within in omega arith)
+        go whole h = inl (turned_onto h.0 [], read_whole short h.1 (subst (λ s. Reading bytes xs c s) h.2 r) h.3 h.4)
+        go (wrong f) h = inr (f, h)
+    told short (suc n) {xs} {c} {s} r l m = go (turned bytes c s) (turn_says bytes stand r) (λ xs c s r l m. told short n r l m)
+      where
+        go : (u : Turned) → Says bytes stand r u → ((xs : List Lexeme) (c : Context) (s : State) → Reading bytes xs c s → c.to ≤ length bytes → length bytes ≤ n + c.to → IsTold) → IsTold
+        go (on d s') h next =
+            let k = stand.token c.to h.0 l h.1.found in
+            let a = k.behind in
+            let b = k.some h.1.some in
+            let w = k.within in
+            let e = ap (λ d. d.to) h.2 in
+            let i = behind_to bytes c h.0 h.1.some in
+            next _ d s' h.3 (omega arith) (omega arith)
+        go whole h next = inl (turned_onto h.0 [], read_whole short h.1 (subst (λ s. Reading bytes xs c s) h.2 r) h.3 h.4)
+        go (wrong f) h next = inr (f, h)
+
+    pub every_text : length bytes < 2 ^ 32 → IsTold
+    every_text short = told short (length bytes) (reading_starts bytes) (omega arith) (omega arith)

@@ -7,8 +7,6 @@ pub mod Seen
 pub mod Frames
 pub mod Rows
 pub mod Tokens
-pub mod Reading
-pub mod Standing
 pub mod ContextSeen
 pub mod Limits
 pub mod LimitsSeen

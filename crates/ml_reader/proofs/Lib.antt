@@ -28,9 +28,6 @@ pub mod Loops
 pub mod Blind
 pub mod ExactLaws
 pub mod Views
-pub mod ReadingLaws
-pub mod ReadingSteps
-pub mod OneStop
 pub mod Over
 pub mod Depths
 pub mod ScriptGoals

@@ -8,7 +8,6 @@ pub mod Frames
 pub mod Rows
 pub mod Tokens
 pub mod Reading
-pub mod Standing
 pub mod ContextSeen
 pub mod Limits
 pub mod LimitsSeen

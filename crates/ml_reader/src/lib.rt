@@ -30,9 +30,6 @@ mod turn;
 
 pub use clauses::read_clauses;
 pub use fault::{ReadFault, ReadKind, ReadStop};
-pub use frames::{Arguments, Bracket, Frame, Next, Refusal, State};
-pub use lexeme::{Lexeme, Magnitude, Mark, Names, Read};
+pub use lexeme::{Names, Read};
 pub use limits::{INTEGER_OFFSET, MOST_ARGUMENTS, MOST_LEVELS, MOST_NODES, MOST_TOKENS};
-pub use operators::Sides;
-pub use parser::step;
 pub use script::read_script;

@@ -1,5 +1,6 @@
 // Texts through their bytes: what is read, and where the others go wrong first.
 ghost use Rattle.std.specs.Prelude.{◌<◌, ◌^◌, length};
+
 use crate::clauses::read_clauses;
 use crate::fault::{ReadKind, ReadStop};
 use ml_term::nodes_up_to;

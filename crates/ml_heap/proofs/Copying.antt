@@ -106,7 +106,8 @@ module _ (h : Changes) (base : ℕ) (ns : List ℕ) (m : Met) (n r : ℕ) (w : K
 
 -- a variable that is met now
 module _ (h h' : Changes) (base : ℕ) (ns : List ℕ) (m m' : Met) (n r : ℕ) (w : Knows h base ns m) (e : cell_of m n ≡ None)
-    (one : HasOneMore h h' r (variable (variable_count h))) (more : variable_count h' ≡ variable_count h + 1) (added : (k : ℕ) → cell_of m' k ≡ cond (n == k) (Some r) (cell_of m k)) where
+    (one : HasOneMore h h' r (variable (variable_count h))) (more : variable_count h' ≡ variable_count h + 1)
+    (added : (k : ℕ) → cell_of m' k ≡ cond (n == k) (Some r) (cell_of m k)) where
   is_new : has n ns ≡ false
   is_new = known (has n ns) refl
     where
@@ -158,7 +159,8 @@ no_more [] = refl
 no_more (n ∷ ns) = ap (λ zs. n ∷ zs) (no_more ns)
 
 -- a term without variables and arguments
-module _ (h h' : Changes) (base : ℕ) (ns : List ℕ) (m : Met) (r : ℕ) (t : Tree) (w : Knows h base ns m) (one : HasOneMore h h' r t) (count : variable_count h' ≡ variable_count h) where
+module _ (h h' : Changes) (base : ℕ) (ns : List ℕ) (m : Met) (r : ℕ) (t : Tree)
+    (w : Knows h base ns m) (one : HasOneMore h h' r t) (count : variable_count h' ≡ variable_count h) where
   constant : variables t ≡ [] → ((s : ℕ → Tree) → substituted s t ≡ t) → IsStored h' base (ns ++ variables t) m r t
   constant v s =
       let same : ns ++ variables t ≡ ns = ap (λ vs. ns ++ vs) v ∙ no_more ns in
@@ -175,7 +177,8 @@ module _ (h h' : Changes) (base : ℕ) (ns : List ℕ) (m : Met) (r : ℕ) (t : 
   pub stored_atom : (f : List ℕ) → t ≡ atom f → IsStored h' base (ns ++ variables t) m r t
   stored_atom f e = constant (ap variables e) (λ s. ap (substituted s) e ∙ sym e)
 
-pub stored_variable : (h : Changes) (base : ℕ) (ns : List ℕ) (m : Met) (n r : ℕ) (t : Tree) → t ≡ variable n → IsStored h base (ns ++ n ∷ []) m r (variable n) → IsStored h base (ns ++ variables t) m r t
+pub stored_variable : (h : Changes) (base : ℕ) (ns : List ℕ) (m : Met) (n r : ℕ) (t : Tree) → t ≡ variable n
+    → IsStored h base (ns ++ n ∷ []) m r (variable n) → IsStored h base (ns ++ variables t) m r t
 stored_variable h base ns m n r t e s = subst (λ u. IsStored h base (ns ++ variables u) m r u) (sym e) s
 
 pub stored_compound : (h h' : Changes) (base : ℕ) (ns : List ℕ) (m : Met) (r : ℕ) (f qs : List ℕ) (ts : Trees) (t : Tree) → t ≡ compound f ts
@@ -213,7 +216,8 @@ pub none_stored : (h : Changes) (base : ℕ) (ns : List ℕ) (m : Met) → Knows
 none_stored h base ns m w = record { knows = subst (λ ms. Knows h base ms m) (sym (no_more ns)) w; inside = tt; stand = refl }
 
 module _ (h h' : Changes) (base : ℕ) (ns : List ℕ) (m m' : Met) (qs : List ℕ) (r : ℕ) (ts : List Tree) (t : Tree)
-    (a : AreStored h base (ns ++ variables_of (trees_of ts)) m qs (trees_of ts)) (s : IsStored h' base ((ns ++ variables_of (trees_of ts)) ++ variables t) m' r t) (g : Grows h h') where
+    (a : AreStored h base (ns ++ variables_of (trees_of ts)) m qs (trees_of ts))
+    (s : IsStored h' base ((ns ++ variables_of (trees_of ts)) ++ variables t) m' r t) (g : Grows h h') where
   abbrev vs : List ℕ
   vs = ns ++ variables_of (trees_of ts)
 
@@ -226,7 +230,8 @@ module _ (h h' : Changes) (base : ℕ) (ns : List ℕ) (m m' : Met) (qs : List �
   still : trees_of (map (stands_for h') qs) ≡ substituted_in number (trees_of ts)
   still =
       ap trees_of (map_alike (stands_for h') (stands_for h) qs (λ i l. g.others (get_or qs i 0) (cells_at (cell_count h) qs a.inside i l)))
-      ∙ (a.stand ∙ alike_in (new_number base vs) number (trees_of ts) (λ k i. ap (λ p. variable (base + p)) (sym (place_stays vs (variables t) k (in_right k ns (variables_of (trees_of ts)) i)))))
+      ∙ (a.stand
+      ∙ alike_in (new_number base vs) number (trees_of ts) (λ k i. ap (λ p. variable (base + p)) (sym (place_stays vs (variables t) k (in_right k ns (variables_of (trees_of ts)) i)))))
 
   stand : trees_of (map (stands_for h') (qs ++ r ∷ [])) ≡ substituted_in number (trees_of (ts ++ t ∷ []))
   stand =

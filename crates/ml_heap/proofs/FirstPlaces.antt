@@ -78,11 +78,15 @@ new_place xs n h = ap (λ zs. place_in zs n) (new_last xs n h) ∙ place_at_end 
 -- a number that was there
 pub known_adds_none : (xs : List ℕ) (n : ℕ) → has n xs ≡ true → firsts (xs ++ n ∷ []) ≡ firsts xs
 known_adds_none [] n h = absurd (cc h)
-known_adds_none (x ∷ xs) n h = elim (eqb_tells x n) [ inl q ↦ ap (λ zs. x ∷ zs) (first q.1 (λ i. known_adds_none xs n i) (has n xs) refl) | inr q ↦ ap (λ zs. x ∷ without x zs) (known_adds_none xs n (rw q.0 at h)) ]
+known_adds_none (x ∷ xs) n h = elim (eqb_tells x n) [
+  | inl q ↦ ap (λ zs. x ∷ zs) (first q.1 (λ i. known_adds_none xs n i) (has n xs) refl)
+  | inr q ↦ ap (λ zs. x ∷ without x zs) (known_adds_none xs n (rw q.0 at h))
+]
   where
     first : x ≡ n → (has n xs ≡ true → firsts (xs ++ n ∷ []) ≡ firsts xs) → (b : Bool) → has n xs ≡ b → without x (firsts (xs ++ n ∷ [])) ≡ without x (firsts xs)
     first p k true e = ap (without x) (k e)
-    first p k false e = ap (without x) (new_last xs n e) ∙ (without_append x (firsts xs) (n ∷ []) ∙ (ap (λ zs. without x (firsts xs) ++ zs) gone ∙ no_more (without x (firsts xs))))
+    first p k false e = ap (without x) (new_last xs n e)
+        ∙ (without_append x (firsts xs) (n ∷ []) ∙ (ap (λ zs. without x (firsts xs) ++ zs) gone ∙ no_more (without x (firsts xs))))
       where
         gone : without x (n ∷ []) ≡ []
         gone = elim (eqb_tells n x) [ inl q ↦ rw q.0 refl | inr q ↦ absurd (q.1 (sym p)) ]

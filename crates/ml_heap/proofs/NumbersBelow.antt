@@ -31,7 +31,8 @@ wider c ts a r n i = omega (arith, a r n i)
 
 of_places : (c : ℕ) (ts : List Tree) → AllBelow c ts → (qs : List ℕ) (n : ℕ) → In n (variables_of (trees_of (map (tree_in ts) qs))) → n < c
 of_places c ts a [] n i = absurd (cc i)
-of_places c ts a (q ∷ qs) n i = elim (in_either n (variables (tree_in ts q)) (variables_of (trees_of (map (tree_in ts) qs))) i) [ inl j ↦ a q n j | inr j ↦ of_places c ts a qs n j ]
+of_places c ts a (q ∷ qs) n i = elim (in_either n (variables (tree_in ts q)) (variables_of (trees_of (map (tree_in ts) qs))) i)
+    [ inl j ↦ a q n j | inr j ↦ of_places c ts a qs n j ]
 
 replaced : (c m : ℕ) (u t : Tree) → Below c u → Below c t → Below c (applied (binding m u) t)
 replaced c m u t b a n i = elim (variables_after n m u t i) [ inl j ↦ b n j | inr j ↦ a n j.0 ]
@@ -51,7 +52,8 @@ all_below (variable_made ∷ h) =
 all_below (integer_made z ∷ h) = one_more (state h).created (integer z) (state h).trees (λ n i. absurd (cc i)) (all_below h)
 all_below (atom_made f ∷ h) = one_more (state h).created (atom f) (state h).trees (λ n i. absurd (cc i)) (all_below h)
 all_below (compound_made f qs ∷ h) =
-    one_more (state h).created (compound f (trees_of (map (tree_in (state h).trees) qs))) (state h).trees (of_places (state h).created (state h).trees (all_below h) qs) (all_below h)
+    one_more (state h).created (compound f (trees_of (map (tree_in (state h).trees) qs))) (state h).trees
+    (of_places (state h).created (state h).trees (all_below h) qs) (all_below h)
 all_below (variable_bound v q ∷ h) = all_bound (state h).created (tree_in (state h).trees v) (tree_in (state h).trees q) (state h).trees (all_below h q) (all_below h)
 
 pub below : (h : Changes) (r n : ℕ) → In n (variables (stands_for h r)) → n < variable_count h
@@ -75,6 +77,7 @@ younger c (compound f ts) b o = (o, tt)
 pub new_is_free : (h h' : Changes) (v r : ℕ) → HasOneMore h h' v (variable (variable_count h)) → r < cell_count h → MayBeBound (stands_for h' v) (stands_for h' r)
 new_is_free h h' v r m l =
     let t = variable (variable_count h) in
-    let first : stands_for h' v ≡ t = ap (λ ts. tree_in ts v) m.trees ∙ (ap (tree_in ((state h).trees ++ t ∷ [])) m.place ∙ get_or-append_seam (state h).trees t [] (integer (pos 0))) in
+    let first : stands_for h' v ≡ t =
+    ap (λ ts. tree_in ts v) m.trees ∙ (ap (tree_in ((state h).trees ++ t ∷ [])) m.place ∙ get_or-append_seam (state h).trees t [] (integer (pos 0))) in
     let second : stands_for h' r ≡ stands_for h r = ap (λ ts. tree_in ts r) m.trees ∙ get_or-append (state h).trees (t ∷ []) (integer (pos 0)) r l in
     subst (λ x. MayBeBound x (stands_for h' r)) (sym first) (subst (MayBeBound t) (sym second) (younger (variable_count h) (stands_for h r) (below h r) (absent h r)))

@@ -53,7 +53,8 @@ pub record Reached (ts : List Tree) (es : List Equation) (ts' : List Tree) (es' 
 pub starts : (ts : List Tree) (es : List Equation) → Reached ts es ts es
 starts ts es = record { so_far = []; trees = sym (unchanged ts); solves = refl }
 
-pub goes_on : (ts : List Tree) (es : List Equation) (ts' : List Tree) (es' : List Equation) (ts'' : List Tree) (es'' : List Equation) → Reached ts es ts' es' → Lead ts' es' ts'' es'' → Reached ts es ts'' es''
+pub goes_on : (ts : List Tree) (es : List Equation) (ts' : List Tree) (es' : List Equation) (ts'' : List Tree) (es'' : List Equation)
+    → Reached ts es ts' es' → Lead ts' es' ts'' es'' → Reached ts es ts'' es''
 goes_on ts es ts' es' ts'' es'' r l = record {
   so_far = followed_by r.so_far l.by;
   trees = l.trees ∙ (ap (map (applied l.by)) r.trees ∙ twice_applied r.so_far l.by ts);
@@ -74,7 +75,8 @@ dropped_leads ts e es s = alike_lead ts (e ∷ es) es (λ m. solved_step e es m 
 pub split_leads : (ts : List Tree) (e : Equation) (es us : List Equation) → step e.0 e.1 ≡ split us → Lead ts (e ∷ es) ts (us ++ es)
 split_leads ts e es us s = alike_lead ts (e ∷ es) (us ++ es) (λ m. solved_step e es m ∙ ap (λ x. solved_by_step x es m) s)
 
-pub bound_leads : (ts : List Tree) (e : Equation) (es : List Equation) (n : ℕ) (t : Tree) → step e.0 e.1 ≡ bound n t → Lead ts (e ∷ es) (map (applied (binding n t)) ts) (under (binding n t) es)
+pub bound_leads : (ts : List Tree) (e : Equation) (es : List Equation) (n : ℕ) (t : Tree) → step e.0 e.1 ≡ bound n t
+    → Lead ts (e ∷ es) (map (applied (binding n t)) ts) (under (binding n t) es)
 bound_leads ts e es n t s = record { by = binding n t; trees = refl; solves = λ m. solved_step e es m ∙ ap (λ x. solved_by_step x es m) s }
 
 -- where a rule leads
@@ -140,7 +142,9 @@ module _ (h : Changes) (a b q r : ℕ) (p : q ≡ a) (o : r ≡ b) where
 
   module _ (k : step (stands_for h q) (stands_for h r) ≡ clash) where
     pub none_at_first : unifier (stands_for h a) (stands_for h b) ≡ None
-    none_at_first = none_found (trees h) ((stands_for h a, stands_for h b) ∷ []) (trees h) (stands_for h a) (stands_for h b) [] (first_clashes k) (starts (trees h) ((stands_for h a, stands_for h b) ∷ []))
+    none_at_first =
+        none_found (trees h) ((stands_for h a, stands_for h b) ∷ []) (trees h) (stands_for h a) (stands_for h b) []
+        (first_clashes k) (starts (trees h) ((stands_for h a, stands_for h b) ∷ []))
 
     pub no_replacing_at_first : (ts'' : List Tree) (m : Map) → unifier (stands_for h a) (stands_for h b) ≡ Some m → ts'' ≡ map (applied m) (trees h)
     no_replacing_at_first ts'' m e = absurd (cc (none_at_first, e))

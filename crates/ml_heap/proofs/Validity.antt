@@ -30,7 +30,8 @@ mutual
       let front = and_parts _ _ whole.0 in
       let head = and_parts _ _ front.0 in
       and_from _ _
-      (and_from _ _ (and_from _ _ head.0 (ap (nat_le 1) (arity_kept (value_of (binding n u)) ts) ∙ head.1)) (ap (λ k. nat_le k 255) (arity_kept (value_of (binding n u)) ts) ∙ front.1))
+      (and_from _ _ (and_from _ _ head.0 (ap (nat_le 1) (arity_kept (value_of (binding n u)) ts) ∙ head.1))
+      (ap (λ k. nat_le k 255) (arity_kept (value_of (binding n u)) ts) ∙ front.1))
       (all_replaced n u ts a whole.1)
 
   all_replaced : (n : ℕ) (u : Tree) (ts : Trees) → is_valid u ≡ true → are_valid ts ≡ true → are_valid (substituted_in (value_of (binding n u)) ts) ≡ true
@@ -51,7 +52,8 @@ a_compound : (ts : List Tree) (f qs : List ℕ) → AllValid ts → is_valid_cha
 a_compound ts f qs a v =
     let front = and_parts _ _ v in
     let head = and_parts _ _ front.0 in
-    and_from _ _ (and_from _ _ (and_from _ _ head.0 (ap (nat_le 1) (arity_of_trees (tree_in ts) qs) ∙ head.1)) (ap (λ k. nat_le k 255) (arity_of_trees (tree_in ts) qs) ∙ front.1)) (of_places ts a qs)
+    and_from _ _ (and_from _ _ (and_from _ _ head.0 (ap (nat_le 1) (arity_of_trees (tree_in ts) qs) ∙ head.1))
+    (ap (λ k. nat_le k 255) (arity_of_trees (tree_in ts) qs) ∙ front.1)) (of_places ts a qs)
 
 all_bound : (v u : Tree) (ts : List Tree) → is_valid u ≡ true → AllValid ts → AllValid (bound_in v u ts)
 all_bound (variable n) u ts b a = λ r. ap is_valid (get_or-map (applied (binding n u)) ts r (integer (pos 0))) ∙ replaced n u (tree_in ts r) b (a r)

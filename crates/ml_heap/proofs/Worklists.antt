@@ -33,7 +33,8 @@ below_pairs n [] rs a b = tt
 below_pairs n (q ∷ qs) [] a b = tt
 below_pairs n (q ∷ qs) (r ∷ rs) a b =
     rw (turned q r (zip qs rs))
-    (below_append n (reverse (zip qs rs)) ((q, r) ∷ []) (below_pairs n qs rs (λ i l. a (suc i) (omega arith)) (λ i l. b (suc i) (omega arith))) (a 0 (omega arith), b 0 (omega arith), tt))
+    (below_append n (reverse (zip qs rs)) ((q, r) ∷ []) (below_pairs n qs rs (λ i l. a (suc i) (omega arith)) (λ i l. b (suc i) (omega arith)))
+    (a 0 (omega arith), b 0 (omega arith), tt))
 
 -- pairs that are put last are the first equations
 pairs_first : (ts : List Tree) (es : List Equation) (ps : List (ℕ × ℕ)) (qs rs : List ℕ)
@@ -76,7 +77,8 @@ as_many_trees (atom f) w ts = refl
 as_many_trees (compound f us) w ts = refl
 
 -- the same of equal trees
-pub turned_as : (t t' u u' : Tree) (ts : List Tree) (es : List Equation) (ts' : List Tree) (es' : List Equation) → t ≡ t' → u ≡ u' → Turned ts t u es ts' es' → Turned ts t' u' es ts' es'
+pub turned_as : (t t' u u' : Tree) (ts : List Tree) (es : List Equation) (ts' : List Tree) (es' : List Equation) → t ≡ t' → u ≡ u'
+    → Turned ts t u es ts' es' → Turned ts t' u' es ts' es'
 turned_as t t' u u' ts es ts' es' e k r = subst (λ x. Turned ts t' x es ts' es') k (subst (λ x. Turned ts x u es ts' es') e r)
 
 -- the pair that is taken is the first equation

@@ -15,10 +15,12 @@ Shows h t (Int z) = t ≡ integer z
 Shows h t (Atom f) = t ≡ atom f.now
 Shows h t (Cmp f n) = (t ≡ compound f.now (trees_of (arguments_of t))) × (length (arguments_of t) ≡ n)
 
--- Whether a cell tells a term of a heap: it isn't bound, and holds the term's number, value or name, and its arguments' cells. What is marked as ground is ground.
+-- Whether a cell tells a term of a heap: it isn't bound, and holds the term's number, value or name, and its arguments' cells. What is marked as ground
+-- is ground.
 abbrev pub Tells : Changes → Tree → Cell → Type 0
 Tells h t (Unbound n) = t ≡ variable n
 Tells h t (Bound n q) = ⊥
 Tells h t (cell.Int z) = t ≡ integer z
 Tells h t (cell.Atom f) = t ≡ atom f
-Tells h t (cell.Cmp f qs g) = (t ≡ compound f (trees_of (map (stands_for h) qs))) × ((i : ℕ) → i < length qs → slice_index qs i < cell_count h) × (g ≡ true → is_ground t ≡ true)
+Tells h t (cell.Cmp f qs g) =
+    (t ≡ compound f (trees_of (map (stands_for h) qs))) × ((i : ℕ) → i < length qs → slice_index qs i < cell_count h) × (g ≡ true → is_ground t ≡ true)

@@ -7,7 +7,8 @@ use Rattle.ml_heap.specs.Changes.{Changes, cell_count, stands_for, IsYounger}
 use Rattle.ml_heap.specs.declared.unify.Rule.{Rule}
 use Rattle.ml_heap.specs.declared.unify.Rule.TheVariants.{Same, Clash, Bind, Split}
 
--- Whether the equation of two terms is one of a variable and another term: the variable is to be replaced unless it occurs there, and is the younger of two variables.
+-- Whether the equation of two terms is one of a variable and another term: the variable is to be replaced unless it occurs there, and is the younger of
+-- two variables.
 abbrev pub IsToBeBound : Tree → Tree → Tree → Tree → Type 0
 IsToBeBound (variable n) w t u = IsYounger n w × (occurs n w ≡ false → step t u ≡ bound n w) × (occurs n w ≡ true → step t u ≡ clash)
 IsToBeBound v w t u = ⊥

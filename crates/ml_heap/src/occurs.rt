@@ -1,4 +1,5 @@
-//! Whether a variable occurs in a term. Compounds wait on a worklist, so that no long list needs a deep recursion; what is known to be ground isn't walked.
+//! Whether a variable occurs in a term. Compounds wait on a worklist, so that no long list needs a deep recursion; what is known
+//! to be ground isn't walked.
 ghost use Rattle.std.specs.Prelude.{◌≡◌, ◌+◌, ◌<◌, ◌≤◌, ◌||◌, ℕ, true, false, length, IfOk, OnOk, slice_index};
 ghost use Rattle.ml_term.specs.Tree.{nodes, occurs};
 ghost use Rattle.ml_heap.specs.Changes.{cell_count, stands_for, IsVariable, number};
@@ -31,17 +32,21 @@ impl Heap {
         Ok(false)
     }
 
-    /// Whether a cell stands for a variable or has it as an argument. The compounds among the arguments are put last, to be walked.
+    /// Whether a cell stands for a variable or has it as an argument. The compounds among the arguments are put last, to be
+    /// walked.
     fn walk(&self, number: u32, at: usize, left: &mut Vec<usize>) -> Result<bool, AllocError>
         requires { at < cell_count self.now }
         ensures found { IfOk result (λ found. found ≡ true → occurs number (stands_for self.now at) ≡ true) }
         ensures left { IfOk result (λ found. found ≡ false →
-            occurs_at self.now number left.new.items ≡ (occurs_at self.now number left.old.items || occurs number (stands_for self.now at))) }
-        ensures inside { OnOk result (AreCells (cell_count self.now) left.old.items → AreCells (cell_count self.now) left.new.items) }
-        ensures fewer { IfOk result (λ found. found ≡ false → nodes_at self.now left.new.items < nodes_at self.now left.old.items + nodes (stands_for self.now at)) }
+            occurs_at self.now number left.new.items ≡
+            (occurs_at self.now number left.old.items || occurs number (stands_for self.now at))) }
+        ensures inside { OnOk result (AreCells (cell_count self.now) left.old.items →
+            AreCells (cell_count self.now) left.new.items) }
+        ensures fewer { IfOk result (λ found. found ≡ false →
+            nodes_at self.now left.new.items < nodes_at self.now left.old.items + nodes (stands_for self.now at)) }
     {
         match self.end_at(Ref::at(at)).1 {
-            Cell::Unbound(n) => Ok(*n == number),
+            Cell::Unbound(n) => Ok(number == *n),
             Cell::Cmp(_, args, ground) => {
                 if *ground {
                     return Ok(false);
@@ -64,9 +69,12 @@ impl Heap {
         requires { AreInside self.now places.now }
         ensures found { IfOk result (λ found. found ≡ true → occurs_at self.now number places.now ≡ true) }
         ensures left { IfOk result (λ found. found ≡ false →
-            occurs_at self.now number left.new.items ≡ (occurs_at self.now number left.old.items || occurs_at self.now number places.now)) }
-        ensures inside { OnOk result (AreCells (cell_count self.now) left.old.items → AreCells (cell_count self.now) left.new.items) }
-        ensures few { IfOk result (λ found. found ≡ false → nodes_at self.now left.new.items ≤ nodes_at self.now left.old.items + nodes_at self.now places.now) }
+            occurs_at self.now number left.new.items ≡
+            (occurs_at self.now number left.old.items || occurs_at self.now number places.now)) }
+        ensures inside { OnOk result (AreCells (cell_count self.now) left.old.items →
+            AreCells (cell_count self.now) left.new.items) }
+        ensures few { IfOk result (λ found. found ≡ false →
+            nodes_at self.now left.new.items ≤ nodes_at self.now left.old.items + nodes_at self.now places.now) }
     {
         let mut i = places.len();
         while i > 0 {
@@ -83,9 +91,12 @@ impl Heap {
         requires { at < cell_count self.now }
         ensures found { IfOk result (λ found. found ≡ true → occurs number (stands_for self.now at) ≡ true) }
         ensures left { IfOk result (λ found. found ≡ false →
-            occurs_at self.now number left.new.items ≡ (occurs_at self.now number left.old.items || occurs number (stands_for self.now at))) }
-        ensures inside { OnOk result (AreCells (cell_count self.now) left.old.items → AreCells (cell_count self.now) left.new.items) }
-        ensures few { IfOk result (λ found. found ≡ false → nodes_at self.now left.new.items ≤ nodes_at self.now left.old.items + nodes (stands_for self.now at)) }
+            occurs_at self.now number left.new.items ≡
+            (occurs_at self.now number left.old.items || occurs number (stands_for self.now at))) }
+        ensures inside { OnOk result (AreCells (cell_count self.now) left.old.items →
+            AreCells (cell_count self.now) left.new.items) }
+        ensures few { IfOk result (λ found. found ≡ false →
+            nodes_at self.now left.new.items ≤ nodes_at self.now left.old.items + nodes (stands_for self.now at)) }
     {
         match self.end_at(Ref::at(at)).1 {
             Cell::Unbound(n) => Ok(*n == number),

@@ -13,8 +13,8 @@ use ml_term::Term;
 use std::alloc::AllocError;
 
 impl Heap {
-    /// A cell that stands for a new copy of a term: its variables are created by first place, whatever their numbers were. All other cells stay.
-    /// After a refusal, for want of memory or of numbers of variables, the heap is as it was.
+    /// A cell that stands for a new copy of a term: its variables are created by first place, whatever their numbers were. All other
+    /// cells stay. After a refusal, for want of memory or of numbers of variables, the heap is as it was.
     pub fn store_tree(&mut self, t: &Term) -> Result<Ref, AllocError>
         requires { IsTrue (is_valid (seen t.now)) }
         ensures stored { IfOk result (λ r. HasTree self.old self.new r (renamed (variable_count self.old) (seen t.now))) }
@@ -59,7 +59,8 @@ impl Heap {
         requires valid { IsTrue (are_valid (trees_of (all_seen ts.now))) }
         requires known { (base : ℕ) × ((ns : List ℕ) × Knows self.old base ns met.old) }
         ensures stored { IfOk result (λ rs. (base : ℕ) (ns : List ℕ) → Knows self.old base ns met.old →
-            AreStored self.new base (ns ++ variables_of (trees_of (all_seen ts.now))) met.new rs.items (trees_of (all_seen ts.now))) }
+            AreStored self.new base (ns ++ variables_of (trees_of (all_seen ts.now))) met.new rs.items
+            (trees_of (all_seen ts.now))) }
         ensures many { IfOk result (λ rs. length rs.items ≡ length ts.now) }
         ensures grown { OnOk result (Grows self.old self.new) }
         ensures marks { KeepsMarks self.old self.new }
@@ -74,7 +75,8 @@ impl Heap {
     /// The cell of a variable: a new one where it wasn't met before.
     fn store_variable(&mut self, n: u32, met: &mut Met) -> Result<Ref, AllocError>
         requires { (base : ℕ) × ((ns : List ℕ) × Knows self.old base ns met.old) }
-        ensures stored { IfOk result (λ r. (base : ℕ) (ns : List ℕ) → Knows self.old base ns met.old → IsStored self.new base (ns ++ n ∷ []) met.new r (variable n)) }
+        ensures stored { IfOk result (λ r. (base : ℕ) (ns : List ℕ) → Knows self.old base ns met.old →
+            IsStored self.new base (ns ++ n ∷ []) met.new r (variable n)) }
         ensures grown { OnOk result (Grows self.old self.new) }
         ensures marks { KeepsMarks self.old self.new }
     {

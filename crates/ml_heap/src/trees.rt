@@ -1,5 +1,6 @@
-//! Terms taken out of a heap. A term can be far larger than the cells that it shares, so its nodes are counted first, up to the limit.
-ghost use Rattle.std.specs.Prelude.{◌≡◌, ◌<◌, ◌≤◌, ◌+◌, ◌++◌, ℕ, length, reverse, map, nat_lt, IsTrue, IfOk, OnOk, Err, slice_index};
+//! Terms taken out of a heap. A term can be far larger than the cells that it shares, so its nodes are counted first, up to the
+//! limit.
+ghost use Rattle.std.specs.Prelude.{◌≡◌, ◌<◌, ◌≤◌, ◌+◌, ◌++◌, length, reverse, map, nat_lt, IsTrue, IfOk, OnOk, Err};
 ghost use Rattle.ml_term.specs.Tree.{nodes};
 ghost use Rattle.ml_term.specs.Seen.{seen, all_seen};
 ghost use Rattle.ml_term.specs.Valid.{is_valid};
@@ -17,8 +18,8 @@ use ml_term::{ArgsOf, Term};
 use std::alloc::AllocError;
 
 impl Heap {
-    /// The term that a cell stands for, with the heap's numbers of variables. `TooLarge` exactly where it has over 4,096 nodes.
-    /// Either answer and want of memory leave the heap as it is.
+    /// The term that a cell stands for, with the heap's numbers of variables. `TooLarge` exactly where it has over 4,096 nodes,
+    /// want of memory aside. The heap is only read.
     pub fn tree_at(&self, at: Ref) -> Result<Term, TreeStop>
         requires { at < cell_count self.now }
         ensures taken { IfOk result (λ term. seen term ≡ stands_for self.now at) }
@@ -54,8 +55,10 @@ impl Heap {
     /// Puts the cells of a compound's arguments last, the first after all others. Other cells have none.
     fn push_arguments(&self, at: usize, left: &mut Vec<usize>) -> Result<(), AllocError>
         requires { at < cell_count self.now }
-        ensures nodes { OnOk result (nodes_at self.now left.new.items + 1 ≡ nodes_at self.now left.old.items + nodes (stands_for self.now at)) }
-        ensures inside { OnOk result (AreCells (cell_count self.now) left.old.items → AreCells (cell_count self.now) left.new.items) }
+        ensures nodes { OnOk result (nodes_at self.now left.new.items + 1 ≡
+            nodes_at self.now left.old.items + nodes (stands_for self.now at)) }
+        ensures inside { OnOk result (AreCells (cell_count self.now) left.old.items →
+            AreCells (cell_count self.now) left.new.items) }
         ensures few { OnOk result (length left.new.items ≤ length left.old.items + 255) }
     {
         match self.end_at(Ref::at(at)).1 {

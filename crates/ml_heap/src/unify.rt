@@ -1,6 +1,6 @@
-//! Unification of the terms of two cells, by the rules for equations of trees. Pairs of cells wait on a worklist, the first equation last, so that no long
-//! list needs a deep recursion.
-ghost use Rattle.std.specs.Prelude.{◌≡◌, ◌+◌, ◌<◌, ◌++◌, ◌∷◌, [], ℕ, true, false, length, map, reverse, Some, IfOk, OnOk, IsTrue, slice_index};
+//! Unification of the terms of two cells, by the rules for equations of trees. Pairs of cells wait on a worklist, the first
+//! equation last, so that no long list needs a deep recursion.
+ghost use Rattle.std.specs.Prelude.{◌≡◌, ◌<◌, ◌++◌, true, false, length, map, reverse, Some, IfOk, OnOk, IsTrue};
 ghost use Rattle.std.specs.Option.{is_some};
 ghost use Rattle.std.specs.List.{zip};
 ghost use Rattle.ml_term.specs.Unify.{Map, unifier, mgu, applied, step, clash};
@@ -26,13 +26,15 @@ enum Rule<'a> {
 }
 
 impl Heap {
-    /// Makes the terms of two cells equal by their most general unifier, which replaces variables in every tree: of two variables the younger by the older.
-    /// `Ok(true)` exactly where there is one. After `Ok(false)` and where memory was wanting some bindings may have been made; every mark still has its heap.
+    /// Makes the terms of two cells equal by their most general unifier, which replaces variables in every tree: of two variables
+    /// the younger by the older. `Ok(true)` exactly where there is one. After `Ok(false)` and where memory was wanting some bindings
+    /// may have been made, but no cell; every mark still has its heap, so undoing to one gives it back.
     pub fn unify(&mut self, a: Ref, b: Ref) -> Result<bool, AllocError>
         requires a_inside { a < cell_count self.old }
         requires b_inside { b < cell_count self.old }
         ensures found { IfOk result (λ ok. ok ≡ is_some (unifier (stands_for self.old a) (stands_for self.old b))) }
-        ensures replaced { (m : Map) → unifier (stands_for self.old a) (stands_for self.old b) ≡ Some m → OnOk result (trees self.new ≡ map (applied m) (trees self.old)) }
+        ensures replaced { (m : Map) → unifier (stands_for self.old a) (stands_for self.old b) ≡ Some m →
+            OnOk result (trees self.new ≡ map (applied m) (trees self.old)) }
         ensures cells { cell_count self.new ≡ cell_count self.old }
         ensures counted { variable_count self.new ≡ variable_count self.old }
         ensures marks { KeepsMarks self.old self.new }
@@ -45,7 +47,8 @@ impl Heap {
     fn solve(&mut self, mut left: Vec<(usize, usize)>) -> Result<bool, AllocError>
         requires { AreBelow (cell_count self.old) left.items }
         ensures found { IfOk result (λ ok. ok ≡ is_some (mgu (left_by (trees self.old) left.items))) }
-        ensures replaced { (m : Map) → mgu (left_by (trees self.old) left.items) ≡ Some m → OnOk result (trees self.new ≡ map (applied m) (trees self.old)) }
+        ensures replaced { (m : Map) → mgu (left_by (trees self.old) left.items) ≡ Some m →
+            OnOk result (trees self.new ≡ map (applied m) (trees self.old)) }
         ensures cells { cell_count self.new ≡ cell_count self.old }
         ensures counted { variable_count self.new ≡ variable_count self.old }
         ensures marks { KeepsMarks self.old self.new }
@@ -69,8 +72,10 @@ impl Heap {
         requires b_inside { b < cell_count self.old }
         requires left_inside { AreBelow (cell_count self.old) left.old.items }
         ensures turned { IfOk result (λ ok. ok ≡ true →
-            Turned (trees self.old) (stands_for self.old a) (stands_for self.old b) (left_by (trees self.old) left.old.items) (trees self.new) (left_by (trees self.new) left.new.items)) }
-        ensures clashed { IfOk result (λ ok. ok ≡ false → step (stands_for self.old a) (stands_for self.old b) ≡ clash) }
+            Turned (trees self.old) (stands_for self.old a) (stands_for self.old b) (left_by (trees self.old) left.old.items)
+            (trees self.new) (left_by (trees self.new) left.new.items)) }
+        ensures clashed { IfOk result (λ ok. ok ≡ false →
+            step (stands_for self.old a) (stands_for self.old b) ≡ clash) }
         ensures inside { OnOk result (AreBelow (cell_count self.old) left.new.items) }
         ensures cells { cell_count self.new ≡ cell_count self.old }
         ensures counted { variable_count self.new ≡ variable_count self.old }

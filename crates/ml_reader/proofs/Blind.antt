@@ -6,7 +6,7 @@ use Rattle.ml_reader.specs.Lexemes.{Written, Lexeme, name, unknown, number, pare
 use Rattle.ml_reader.specs.Operators.{Operator, prefix_of, is_operator, infix_at, closes, fits}
 use Rattle.ml_reader.specs.Grammar.{Word, plain, brackets, curlies, AtomBefore, joins, Derives, a_variable, a_number, a_negative, in_braces, an_atom, a_compound, in_parens, a_list, a_prefix, an_infix, Arguments, last_argument, argument, Elements, last_element, before_bar, element, IsText, no_clause, a_clause, Viable}
 use Rattle.ml_reader.specs.Parser.{before, between, parens, braces, arguments, elements, rest, Stack, root, ◌▹◌, State, want, fresh, word, have, clash, unexpected, Next, commas, limit, ended, placed, tried, operated, had_as, had, wanted, after_bracket, put, prefixed, operand_or_prefix, after_word, step, run}
-use Rattle.ml_reader.proofs.Complete.{Begins, begins, elements_begin, yes_op}
+use Rattle.ml_reader.proofs.Following.{Begins, begins, elements_begin, yes_op}
 use Rattle.ml_reader.proofs.Open.{viable}
 
 pub data Kind : Type 0 where

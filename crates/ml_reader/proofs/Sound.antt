@@ -1,12 +1,18 @@
 -- What the parser accepts is in the grammar.
-use Rattle.std.specs.Prelude.{if◌then◌else◌, ◌≡◌, ℕ, Bool, true, false, ◌||◌, not, IsTrue, List, [], ◌∷◌, Option, Some, None, Ok, Err}
-use Rattle.std.proofs.Common.{refl, sym, subst, arith}
+use Rattle.std.specs.Prelude.{if◌then◌else◌, ◌≡◌, ℕ, ◌+◌, Bool, true, false, ◌||◌, not, IsTrue, List, [], ◌∷◌, ◌++◌, Option, Some, None, Ok, Err}
+use Rattle.std.proofs.Common.{refl, sym, ap, ◌∙◌, subst, arith, true≢false, append-nil}
 use Rattle.std.proofs.lemmas.Bool.{le-leb}
-use Rattle.ml_term.specs.Tree.{Tree, Trees, atom, compound, compound_1, compound_2, no_trees, tree}
+use Rattle.ml_term.specs.Tree.{Tree, Trees, arity, atom, compound, compound_1, compound_2, no_trees, tree}
 use Rattle.ml_reader.specs.Lexemes.{Written, written, Lexeme, name, unknown, number, paren, close, bracket, unbracket, brace, unbrace, bar, comma, end, onto, turned_onto, brackets_name, braces_name, cell, cells}
 use Rattle.ml_reader.specs.Operators.{Operator, prefix_of, is_operator, infix_at, closes, fits}
 use Rattle.ml_reader.specs.Grammar.{Word, plain, brackets, curlies, joins, Derives, a_variable, a_number, a_negative, in_braces, an_atom, a_compound, in_parens, a_list, a_prefix, an_infix, Arguments, last_argument, argument, Elements, last_element, before_bar, element, IsText, no_clause, a_clause}
+use Rattle.ml_reader.specs.Levels.{enclosed, in_argument, in_list, in_tail, right_of, Wants, at_first, behind_clause, behind_paren, behind_brace, behind_bracket, behind_functor, behind_argument, behind_element, behind_bar, behind_prefix, behind_infix}
 use Rattle.ml_reader.specs.Parser.{before, between, parens, braces, arguments, elements, rest, Stack, root, ◌▹◌, State, want, fresh, word, have, clash, Next, commas, limit, ended, placed, tried, operated, had_as, wanted, after_bracket, put, prefixed, operand_or_prefix, after_word, step, run, read}
+use Rattle.ml_reader.proofs.Paths.{opened, commas_opened, greatest_opened}
+
+or_false : (k l : Bool) → (k || l) ≡ false → l ≡ false
+or_false false l e = e
+or_false true l e = absurd (true≢false e)
 
 pub zero_fits : (b : Bool) (q : ℕ) → IsTrue (fits b 0 q)
 zero_fits true q = le-leb 0 q (omega arith)
@@ -15,17 +21,32 @@ zero_fits false q = refl
 module _ (b : Bool) (start : List Lexeme) where
   -- the tokens from the start up to ys open the frames, and a term is wanted: each frame says what is derived when its operand is
   abbrev pub Begun : Stack → List Lexeme → Type 0
-  Begun (root cs) ys = (ds : List Written) → IsText b ys ds → IsText b start (turned_onto cs ds)
+  Begun (root cs) ys = Wants b start ys [] × ((ds : List Written) → IsText b ys ds → IsText b start (turned_onto cs ds))
   Begun (before f o ▹ fs) ys = (xs : List Lexeme) × Begun fs xs × IsTrue (fits b o.priority (limit fs))
-      × ((zs : List Lexeme) (p : ℕ) (t : Tree) → Derives b (commas fs) ys zs p t → IsTrue (fits b p o.right) → Derives b (commas fs) xs zs o.priority (compound_1 f t))
+      × ((zs : List Lexeme) (p : ℕ) (t : Tree) → Derives b (commas fs) ys zs p t → IsTrue (fits b p o.right) → Derives b (commas fs) xs zs o.priority (compound_1 f t)) × Wants b start ys (right_of o.right ∷ opened fs)
   Begun (between o u ▹ fs) ys = (xs : List Lexeme) × Begun fs xs × IsTrue (fits b o.priority (limit fs))
-      × ((zs : List Lexeme) (p : ℕ) (t : Tree) → Derives b (commas fs) ys zs p t → IsTrue (fits b p o.right) → Derives b (commas fs) xs zs o.priority (compound_2 o.name u t))
-  Begun (parens ▹ fs) ys = (xs : List Lexeme) × Begun fs xs × ((zs : List Lexeme) (p : ℕ) (t : Tree) → Derives b true ys (close ∷ zs) p t → IsTrue (fits b p 1200) → Derives b (commas fs) xs zs 0 t)
+      × ((zs : List Lexeme) (p : ℕ) (t : Tree) → Derives b (commas fs) ys zs p t → IsTrue (fits b p o.right) → Derives b (commas fs) xs zs o.priority (compound_2 o.name u t)) × Wants b start ys (right_of o.right ∷ opened fs)
+  Begun (parens ▹ fs) ys =
+      (xs : List Lexeme) × Begun fs xs × ((zs : List Lexeme) (p : ℕ) (t : Tree) → Derives b true ys (close ∷ zs) p t → IsTrue (fits b p 1200) → Derives b (commas fs) xs zs 0 t) × Wants b start ys (enclosed ∷ opened fs)
   Begun (braces ▹ fs) ys =
       (xs : List Lexeme) × Begun fs xs × ((zs : List Lexeme) (p : ℕ) (t : Tree) → Derives b true ys (unbrace ∷ zs) p t → IsTrue (fits b p 1200) → Derives b (commas fs) xs zs 0 (compound_1 braces_name t))
-  Begun (arguments f ts ▹ fs) ys = (xs : List Lexeme) × Begun fs xs × ((zs : List Lexeme) (us : Trees) → Arguments b ys zs us → Derives b (commas fs) xs zs 0 (compound f (onto ts us)))
-  Begun (elements ts ▹ fs) ys = (xs : List Lexeme) × Begun fs xs × ((zs : List Lexeme) (u : Tree) → Elements b ys zs u → Derives b (commas fs) xs zs 0 (cells ts u))
-  Begun (rest ts ▹ fs) ys = (xs : List Lexeme) × Begun fs xs × ((zs : List Lexeme) (p : ℕ) (t : Tree) → Derives b false ys (unbracket ∷ zs) p t → IsTrue (fits b p 999) → Derives b (commas fs) xs zs 0 (cells ts t))
+      × Wants b start ys (enclosed ∷ opened fs)
+  Begun (arguments f ts ▹ fs) ys =
+      (xs : List Lexeme) × Begun fs xs × ((zs : List Lexeme) (us : Trees) → Arguments b ys zs us → Derives b (commas fs) xs zs 0 (compound f (onto ts us))) × Wants b start ys (in_argument (1 + arity ts) ∷ opened fs)
+  Begun (elements ts ▹ fs) ys = (xs : List Lexeme) × Begun fs xs × ((zs : List Lexeme) (u : Tree) → Elements b ys zs u → Derives b (commas fs) xs zs 0 (cells ts u)) × Wants b start ys (in_list ∷ opened fs)
+  Begun (rest ts ▹ fs) ys =
+      (xs : List Lexeme) × Begun fs xs × ((zs : List Lexeme) (p : ℕ) (t : Tree) → Derives b false ys (unbracket ∷ zs) p t → IsTrue (fits b p 999) → Derives b (commas fs) xs zs 0 (cells ts t)) × Wants b start ys (in_tail ∷ opened fs)
+
+  -- the frames are the levels that are open
+  pub placed_in : (fs : Stack) (ys : List Lexeme) → Begun fs ys → Wants b start ys (opened fs)
+  placed_in (root cs) ys g = g.0
+  placed_in (before f o ▹ fs) ys g = g.4
+  placed_in (between o u ▹ fs) ys g = g.4
+  placed_in (parens ▹ fs) ys g = g.3
+  placed_in (braces ▹ fs) ys g = g.3
+  placed_in (arguments f ts ▹ fs) ys g = g.3
+  placed_in (elements ts ▹ fs) ys g = g.3
+  placed_in (rest ts ▹ fs) ys g = g.3
 
   abbrev pub Holds : State → List Lexeme → Type 0
   Holds (want fs) ys = Begun fs ys
@@ -46,18 +67,24 @@ module _ (b : Bool) (start : List Lexeme) where
   ended_holds close t (parens ▹ fs) p xs ys g d h = (g.0, g.1, g.2 ys p t d h, zero_fits b (limit fs))
   ended_holds unbrace t (braces ▹ fs) p xs ys g d h = (g.0, g.1, g.2 ys p t d h, zero_fits b (limit fs))
   ended_holds close t (arguments f ts ▹ fs) p xs ys g d h = (g.0, g.1, g.2 ys (tree t no_trees) (last_argument d h), zero_fits b (limit fs))
-  ended_holds comma t (arguments f ts ▹ fs) p xs ys g d h = (g.0, g.1, λ zs us us_d. g.2 zs (tree t us) (argument d h us_d))
-  ended_holds comma t (elements ts ▹ fs) p xs ys g d h = (g.0, g.1, λ zs u es. g.2 zs (cell t u) (element d h es))
-  ended_holds bar t (elements ts ▹ fs) p xs ys g d h = (g.0, g.1, λ zs q u e l. g.2 zs (cell t u) (before_bar d h e l))
+  ended_holds comma t (arguments f ts ▹ fs) p xs ys g d h = (g.0, g.1, λ zs us us_d. g.2 zs (tree t us) (argument d h us_d), behind_argument g.3 d h)
+  ended_holds comma t (elements ts ▹ fs) p xs ys g d h = (g.0, g.1, λ zs u es. g.2 zs (cell t u) (element d h es), behind_element g.3 d h)
+  ended_holds bar t (elements ts ▹ fs) p xs ys g d h = (g.0, g.1, λ zs q u e l. g.2 zs (cell t u) (before_bar d h e l), behind_bar g.3 d h)
   ended_holds unbracket t (elements ts ▹ fs) p xs ys g d h = (g.0, g.1, g.2 ys (cell t (atom brackets_name)) (last_element d h), zero_fits b (limit fs))
   ended_holds unbracket t (rest ts ▹ fs) p xs ys g d h = (g.0, g.1, g.2 ys p t d h, zero_fits b (limit fs))
-  ended_holds (end n) t (root cs) p xs ys g d h = λ us i. g (written n t ∷ us) (a_clause d h i)
+  ended_holds (end n) t (root cs) p xs ys g d h = (behind_clause g.0 d h, λ us i. g.1 (written n t ∷ us) (a_clause d h i))
   ended_holds x t fs p xs ys g d h = tt
 
   module _ (o : Operator) (x : Lexeme) (ys : List Lexeme) where
     placed_holds : (p : ℕ) (t : Tree) (fs : Stack) (xs : List Lexeme) → Begun fs xs → infix_at (commas fs) x ≡ Some o → Derives b (commas fs) xs (x ∷ ys) p t → IsTrue (fits b o.priority (limit fs))
         → (k : Bool) → fits b p o.left ≡ k → HoldsAfter (placed k o t fs) ys
-    placed_holds p t fs xs g e d h true l = (xs, g, h, λ zs q u d' h'. an_infix d e l d' h')
+    placed_holds p t fs xs g e d h true l = (
+      xs,
+      g,
+      h,
+      λ zs q u d' h'. an_infix d e l d' h',
+      behind_infix (placed_in fs xs g) (subst (λ c. Derives b c xs (x ∷ ys) p t) (sym (commas_opened fs)) d) (ap (λ c. infix_at c x) (commas_opened fs) ∙ e) l (subst (λ n. IsTrue (fits b o.priority n)) (sym (greatest_opened fs)) h),
+    )
     placed_holds p t fs xs g e d h false l = tt
 
     tried_holds : (p : ℕ) (t : Tree) (fs : Stack) (xs : List Lexeme) (low : Next) → Begun fs xs → infix_at (commas fs) x ≡ Some o → Derives b (commas fs) xs (x ∷ ys) p t → HoldsAfter low ys
@@ -83,7 +110,7 @@ module _ (b : Bool) (start : List Lexeme) where
   wanted_holds (name q f) fs ys g = (name q f ∷ ys, g, plain)
   wanted_holds (unknown n) fs ys g = (unknown n ∷ ys, g, a_variable, zero_fits b (limit fs))
   wanted_holds (number k n) fs ys g = (number k n ∷ ys, g, a_number, zero_fits b (limit fs))
-  wanted_holds (paren k) fs ys g = (paren k ∷ ys, g, λ zs p t d h. in_parens d h)
+  wanted_holds (paren k) fs ys g = (paren k ∷ ys, g, λ zs p t d h. in_parens d h, behind_paren (placed_in fs (paren k ∷ ys) g))
   wanted_holds bracket fs ys g = (bracket ∷ ys, g, refl)
   wanted_holds brace fs ys g = (brace ∷ ys, g, refl)
   wanted_holds x fs ys g = tt
@@ -94,26 +121,27 @@ module _ (b : Bool) (start : List Lexeme) where
   after_bracket_holds : (k : Bool) (x : Lexeme) (fs : Stack) (xs ys : List Lexeme) → Begun fs xs → xs ≡ (if k then bracket else brace) ∷ (x ∷ ys) → HoldsAfter (after_bracket k x fs) ys
   after_bracket_holds true unbracket fs xs ys g e = (xs, g, subst (λ l. Word l ys false brackets_name) (sym e) brackets)
   after_bracket_holds false unbrace fs xs ys g e = (xs, g, subst (λ l. Word l ys false braces_name) (sym e) curlies)
-  after_bracket_holds true x fs xs ys g e = wanted_holds x (elements no_trees ▹ fs) ys (xs, g, λ zs u es. listed e es)
-  after_bracket_holds false x fs xs ys g e = wanted_holds x (braces ▹ fs) ys (xs, g, λ zs p t d l. listed_in e d l)
+  after_bracket_holds true x fs xs ys g e = wanted_holds x (elements no_trees ▹ fs) ys (xs, g, λ zs u es. listed e es, behind_bracket (subst (λ l. Wants b start l (opened fs)) e (placed_in fs xs g)))
+  after_bracket_holds false x fs xs ys g e = wanted_holds x (braces ▹ fs) ys (xs, g, λ zs p t d l. listed_in e d l, behind_brace (subst (λ l. Wants b start l (opened fs)) e (placed_in fs xs g)))
 
-  put_holds : (m : Bool) (f : List ℕ) (o : Operator) (x : Lexeme) (fs : Stack) (xs ys : List Lexeme) → Begun fs xs → Word xs (x ∷ ys) m f → prefix_of f ≡ Some o → IsTrue (not (joins m (x ∷ ys)))
+  put_holds : (m : Bool) (f : List ℕ) (o : Operator) (x : Lexeme) (fs : Stack) (xs ys : List Lexeme) → Begun fs xs → Word xs (x ∷ ys) m f → prefix_of f ≡ Some o → IsTrue (not (joins m (x ∷ ys))) → closes x ≡ false
       → (k : Bool) → fits b o.priority (limit fs) ≡ k → HoldsAfter (put k f o x fs) ys
-  put_holds m f o x fs xs ys g w e n true h = wanted_holds x (before f o ▹ fs) ys (xs, g, h, λ zs p t d l. a_prefix w e n d l)
-  put_holds m f o x fs xs ys g w e n false h = tt
+  put_holds m f o x fs xs ys g w e n s true h =
+      wanted_holds x (before f o ▹ fs) ys (xs, g, h, λ zs p t d l. a_prefix w e n d l, behind_prefix (placed_in fs xs g) w e n s (subst (λ n. IsTrue (fits b o.priority n)) (sym (greatest_opened fs)) h))
+  put_holds m f o x fs xs ys g w e n s false h = tt
 
-  prefixed_holds : (m : Bool) (f : List ℕ) (x : Lexeme) (fs : Stack) (xs ys : List Lexeme) → Begun fs xs → Word xs (x ∷ ys) m f → IsTrue (not (joins m (x ∷ ys)))
+  prefixed_holds : (m : Bool) (f : List ℕ) (x : Lexeme) (fs : Stack) (xs ys : List Lexeme) → Begun fs xs → Word xs (x ∷ ys) m f → IsTrue (not (joins m (x ∷ ys))) → closes x ≡ false
       → (i : Option Operator) → prefix_of f ≡ i → HoldsAfter (prefixed b i f x fs) ys
-  prefixed_holds m f x fs xs ys g w n None e = tt
-  prefixed_holds m f x fs xs ys g w n (Some o) e = put_holds m f o x fs xs ys g w e n (fits b o.priority (limit fs)) refl
+  prefixed_holds m f x fs xs ys g w n s None e = tt
+  prefixed_holds m f x fs xs ys g w n s (Some o) e = put_holds m f o x fs xs ys g w e n s (fits b o.priority (limit fs)) refl
 
   operand_or_prefix_holds : (m : Bool) (f : List ℕ) (x : Lexeme) (fs : Stack) (xs ys : List Lexeme) → Begun fs xs → Word xs (x ∷ ys) m f → IsTrue (not (joins m (x ∷ ys)))
       → (k : Bool) → (not (is_operator f) || closes x) ≡ k → HoldsAfter (operand_or_prefix b k f x fs) ys
   operand_or_prefix_holds m f x fs xs ys g w n true a = had_holds x 0 (atom f) fs xs ys g (an_atom w a) (zero_fits b (limit fs)) (infix_at (commas fs) x) refl
-  operand_or_prefix_holds m f x fs xs ys g w n false a = prefixed_holds m f x fs xs ys g w n (prefix_of f) refl
+  operand_or_prefix_holds m f x fs xs ys g w n false a = prefixed_holds m f x fs xs ys g w n (or_false (not (is_operator f)) (closes x) a) (prefix_of f) refl
 
   after_word_holds : (m : Bool) (f : List ℕ) (x : Lexeme) (fs : Stack) (xs ys : List Lexeme) → Begun fs xs → Word xs (x ∷ ys) m f → HoldsAfter (after_word b m f x fs) ys
-  after_word_holds m f (paren true) fs xs ys g w = (xs, g, λ zs us us_d. a_compound w us_d)
+  after_word_holds m f (paren true) fs xs ys g w = (xs, g, λ zs us us_d. a_compound w us_d, behind_functor (placed_in fs xs g) w)
   after_word_holds true f (number true n) fs xs ys g w = (xs, g, a_negative w, zero_fits b (limit fs))
   after_word_holds m f x fs xs ys g w = operand_or_prefix_holds m f x fs xs ys g w refl (not (is_operator f) || closes x) refl
 
@@ -123,14 +151,15 @@ module _ (b : Bool) (start : List Lexeme) where
   step_holds (word m f fs) x ys g = after_word_holds m f x fs g.0 ys g.1 g.2
   step_holds (have p t fs) x ys g = had_holds x p t fs g.0 ys g.1 g.2 g.3 (infix_at (commas fs) x) refl
 
-  run_holds : (n : Next) (xs : List Lexeme) → HoldsAfter n xs → HoldsAfter (run b n xs) []
-  run_holds n [] g = g
-  run_holds (Ok s) (x ∷ xs) g = run_holds (step b s x) xs (step_holds s x xs g)
-  run_holds (Err e) (x ∷ xs) g = tt
+  run_holds : (n : Next) (xs ys : List Lexeme) → HoldsAfter n (xs ++ ys) → HoldsAfter (run b n xs) ys
+  run_holds n [] ys g = g
+  run_holds (Ok s) (x ∷ xs) ys g = run_holds (step b s x) xs ys (step_holds s x (xs ++ ys) g)
+  run_holds (Err e) (x ∷ xs) ys g = tt
 
-  pub read_holds : HoldsAfter (read b start) []
-  read_holds = run_holds (Ok (want (root []))) start (λ us i. i)
+-- what the parser has read of some tokens holds of it
+pub read_holds : (b : Bool) (xs ys : List Lexeme) (s : State) → read b xs ≡ Ok s → Holds b (xs ++ ys) s ys
+read_holds b xs ys s e = subst (λ n. HoldsAfter b (xs ++ ys) n ys) e (run_holds b (xs ++ ys) (Ok (want (root []))) xs ys (at_first, λ us i. i))
 
 -- what is read are clauses
 pub sound : (b : Bool) (xs : List Lexeme) (cs : List Written) → read b xs ≡ Ok (want (root cs)) → IsText b xs (turned_onto cs [])
-sound b xs cs e = subst (λ n. HoldsAfter b xs n []) e (read_holds b xs) [] no_clause
+sound b xs cs e = subst (λ l. IsText b l (turned_onto cs [])) (append-nil xs) ((read_holds b xs [] (want (root cs)) e).1 [] no_clause)

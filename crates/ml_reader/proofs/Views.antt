@@ -20,7 +20,7 @@ use Rattle.ml_reader.specs.declared.frames.Frame.{Frame}
 use Rattle.ml_reader.specs.declared.frames.Refusal.{Refusal}
 use Rattle.ml_reader.specs.declared.frames.Refusal.TheVariants as R
 use Rattle.ml_reader.specs.declared.frames.Frame.TheVariants as F
-use Rattle.ml_reader.proofs.Complete.{place, leb_not}
+use Rattle.ml_reader.proofs.Following.{place, leb_not}
 
 abbrev before : List Term → Trees → Trees
 before [] vs = vs

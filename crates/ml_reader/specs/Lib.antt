@@ -8,9 +8,16 @@ pub mod Frames
 pub mod Rows
 pub mod Tokens
 pub mod Reading
-pub mod Standing
 pub mod ContextSeen
 pub mod Limits
 pub mod LimitsSeen
 pub mod Levels
 pub mod Texts
+pub mod Faults
+pub mod Turns
+pub mod TurnsSeen
+pub mod Scripts
+pub mod ScriptTexts
+pub mod ScriptItems
+pub mod ScriptSeen
+pub mod ScriptRows

@@ -19,12 +19,12 @@ abbrev pub depth : Stack → ℕ
 depth (root cs) = 0
 depth (f ▹ fs) = 1 + depth fs
 
--- how many levels are open
+-- how many levels are open where a term may begin
 abbrev pub levels : State → ℕ
 levels (want fs) = depth fs
 levels (fresh k fs) = 1 + depth fs
-levels (word m f fs) = depth fs
-levels (have p t fs) = depth fs
+levels (word m f fs) = 0
+levels (have p t fs) = 0
 
 -- a prefix operator, if it is one and fits, opens a level past the limit
 abbrev pub opens_past : Option Operator → Stack → Bool
@@ -38,7 +38,7 @@ name_too_deep s = false
 
 -- the token makes a prefix operator of the name that was read last
 abbrev pub makes_prefix : State → Lexeme → Bool
-makes_prefix (word m f fs) x = not (joins m (x ∷ [])) && is_operator f && not (closes x)
+makes_prefix (word m f fs) x = not (joins m (x ∷ [])) && not (closes x) && is_operator f
 makes_prefix s x = false
 
 -- a number that directly follows, or not, is one with the bare `-` that was read last
@@ -51,27 +51,38 @@ abbrev pub is_lone : State → Lexeme → Bool
 is_lone s (number tight n) = nat_le INTEGER_OFFSET n && not (joined s tight)
 is_lone s x = false
 
+-- what a token comes to: a state, a fault, or a name that is one token too many and that opens a level past the limit too, if
+-- what follows makes a prefix operator of it
+pub data Outcome : Type 0 where
+  goes : State → Outcome
+  late : State → Outcome
+  stops : ReadFault → Outcome
+
 -- the fault at a place
-abbrev pub fault_at : ReadKind → ℕ → Result State ReadFault
-fault_at kind place = Err (record { place = place; kind = kind })
+abbrev pub fault_at : ReadKind → ℕ → Outcome
+fault_at kind place = stops (record { place = place; kind = kind })
 
 -- a clause that ends has few nodes
-abbrev pub sized : State → Result State ReadFault
-sized (want (root (c ∷ cs))) = if nat_le (nodes c.term) MOST_NODES then Ok (want (root (c ∷ cs))) else fault_at TooManyNodes c.place
-sized s = Ok s
+abbrev pub sized : State → Outcome
+sized (want (root (c ∷ cs))) = if nat_le (nodes c.term) MOST_NODES then goes (want (root (c ∷ cs))) else fault_at TooManyNodes c.place
+sized s = goes s
+
+-- a token that is one too many
+abbrev pub too_many : Here → State → Outcome
+too_many h s = if name_too_deep s then late s else fault_at ClauseTooLong h.place
 
 -- a token that the parser refuses, unless a limit stands before that
-abbrev pub stopped : Here → Bool → ReadKind → Result State ReadFault
+abbrev pub stopped : Here → Bool → ReadKind → Outcome
 stopped h lone kind =
     if nat_le MOST_TOKENS h.tokens then fault_at ClauseTooLong h.place
     else (if lone then fault_at NumberTooLarge h.place
     else fault_at kind h.place)
 
 -- what the parser makes of a token, within the limits
-abbrev pub checked : Here → Bool → Result State Refusal → Result State ReadFault
+abbrev pub checked : Here → Bool → Result State Refusal → Outcome
 checked h lone (Ok s) =
     if nat_lt MOST_LEVELS (levels s) then fault_at TooDeep h.place
-    else (if nat_le MOST_TOKENS h.tokens then fault_at ClauseTooLong h.place
+    else (if nat_le MOST_TOKENS h.tokens then too_many h s
     else (if lone then fault_at NumberTooLarge h.place
     else sized s))
 checked h lone (Err ManyArguments) = fault_at ArityTooLarge h.place
@@ -79,5 +90,5 @@ checked h lone (Err Clash) = stopped h lone PriorityClash
 checked h lone (Err Stray) = stopped h lone Unexpected
 
 -- the next token within the limits
-abbrev pub limited : Here → State → Lexeme → Result State ReadFault
+abbrev pub limited : Here → State → Lexeme → Outcome
 limited h s x = if makes_prefix s x && name_too_deep s then fault_at TooDeep h.last else checked h (is_lone s x) (few (step true s x))

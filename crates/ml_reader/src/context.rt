@@ -1,13 +1,13 @@
 //! What the tokens of a text tell of the next one: its clause's variables, places and length so far.
-ghost use Rattle.std.specs.Prelude.{◌≡◌, ◌-◌, ◌≤◌, ◌<◌, ◌^◌, IfOk, IsTrue, length};
+ghost use Rattle.std.specs.Prelude.{◌≡◌, ◌≢◌, ◌-◌, ◌≤◌, ◌<◌, ◌^◌, IfOk, IsTrue, length};
 ghost use Rattle.ml_token.specs.Values.{is_name, name_of, StandsIn};
+ghost use Rattle.ml_token.specs.declared.tokens.TokenKind.TheVariants.{QuotedName};
 ghost use Rattle.ml_reader.specs.Seen.{lexeme_seen};
 ghost use Rattle.ml_reader.specs.Tokens.{behind, behind_variable, lexeme, find_name, first_sign, mark_at, nothing_before, one_more, sign, variable_number};
 ghost use Rattle.ml_reader.specs.Lexemes.{end, unknown};
 ghost use Rattle.ml_reader.specs.ContextSeen.{behind_end, context_seen};
 
 use crate::lexeme::{Lexeme, Magnitude, Mark, Names};
-use crate::operators::is;
 use ml_term::Name;
 use ml_token::{Token, TokenKind, name_text, number_value};
 use std::alloc::{AllocError, Global};
@@ -46,12 +46,12 @@ impl Context {
 }
 
 /// The number that stands beside a name.
-fn find(names: &Names, name: &Name) -> Option<u32>
+fn find(names: &Names, name: &[u8]) -> Option<u32>
     ensures { result ≡ find_name names.now name.now }
 {
     let mut rest = names.as_slice();
     while let Some((first, others)) = rest.split_first() {
-        if first.0.as_slice() == name.as_slice() {
+        if first.0.as_slice() == name {
             return Some(first.1);
         }
         rest = others;
@@ -130,32 +130,50 @@ fn ended(alloc: Global, context: Context, token: &Token) -> (Lexeme, Context)
     (Lexeme::End(mark), next)
 }
 
-/// A variable by its number, and what stands behind it.
-fn variable(name: Name, context: Context, token: &Token) -> Result<(Lexeme, Context), AllocError>
+/// A variable of this name by its number, and what stands behind it.
+fn variable(
+    alloc: Global,
+    name: &[u8],
+    context: Context,
+    token: &Token,
+) -> Result<(Lexeme, Context), AllocError>
+    requires named { IsTrue (is_name name.now) }
     requires tokens { context.tokens < 2 ^ 64 - 1 }
     requires variables { context.variables < 2 ^ 32 - 1 }
-    ensures lexeme { IfOk result (λ r. lexeme_seen r.0 ≡ unknown (variable_number (context_seen context) name)) }
-    ensures context { IfOk result (λ r. context_seen r.1 ≡ behind_variable name (context_seen context) token.now) }
+    ensures lexeme { IfOk result (λ r. lexeme_seen r.0 ≡ unknown (variable_number (context_seen context) name.now)) }
+    ensures context { IfOk result (λ r. context_seen r.1 ≡ behind_variable name.now (context_seen context) token.now) }
 {
     let n = context.variables;
-    if is(&name, b"_") {
+    if b"_".as_slice() == name {
         let mut next = advanced(context, token);
         next.variables = 1 + n;
         return Ok((Lexeme::Unknown(n), next));
     }
-    match find(&context.names, &name) {
+    match find(&context.names, name) {
         Some(known) => Ok((Lexeme::Unknown(known), advanced(context, token))),
         None => {
             let mut next = advanced(context, token);
-            next.names.push(name, n)?;
+            next.names.push(Name::new(alloc, name)?, n)?;
             next.variables = 1 + n;
             Ok((Lexeme::Unknown(n), next))
         }
     }
 }
 
-/// The name that a token spells.
-fn name_at(alloc: Global, bytes: &[u8], token: &Token) -> Result<Name, AllocError>
+/// The bytes of a token that is no quoted name, which are the name that it spells.
+fn text_at<'a>(bytes: &'a [u8], token: &Token) -> &'a [u8]
+    requires ordered { token.now.from ≤ token.now.to }
+    requires within { token.now.to ≤ length bytes.now }
+    requires bare { token.now.kind ≢ QuotedName }
+    ensures { result.now ≡ name_of bytes.now token.now }
+{
+    let (_, rest) = bytes.split_at(token.from);
+    let (text, _) = rest.split_at(token.to - token.from);
+    text
+}
+
+/// The name that a token spells between its quotes.
+fn quoted_at(alloc: Global, bytes: &[u8], token: &Token) -> Result<Name, AllocError>
     requires ordered { token.now.from ≤ token.now.to }
     requires within { token.now.to ≤ length bytes.now }
     requires named { IsTrue (is_name (name_of bytes.now token.now)) }
@@ -181,14 +199,14 @@ pub fn taken_in(
     let tight = token.from == context.to;
     match token.kind {
         TokenKind::Name => {
-            let name = name_at(alloc, bytes, token)?;
+            let name = Name::new(alloc, text_at(bytes, token))?;
             Ok((Lexeme::Name(false, name), advanced(context, token)))
         }
         TokenKind::QuotedName => {
-            let name = name_at(alloc, bytes, token)?;
+            let name = quoted_at(alloc, bytes, token)?;
             Ok((Lexeme::Name(true, name), advanced(context, token)))
         }
-        TokenKind::Variable => variable(name_at(alloc, bytes, token)?, context, token),
+        TokenKind::Variable => variable(alloc, text_at(bytes, token), context, token),
         TokenKind::Number => {
             let value = number_value(bytes, token);
             Ok((

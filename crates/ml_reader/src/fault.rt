@@ -1,4 +1,8 @@
 //! Where and why a text is no text of clauses, of rules or of a script.
+ghost use Rattle.std.specs.Prelude.{◌≡◌};
+ghost use Rattle.ml_reader.specs.declared.fault.ReadStop.TheVariants as read_stop;
+
+use std::alloc::{AllocError, AllocFailed};
 
 /// Why a text was refused.
 #[derive(Clone, Copy, Debug, PartialEq, Eq)]
@@ -46,4 +50,29 @@ pub enum ReadKind {
 pub struct ReadFault {
     pub place: usize,
     pub kind: ReadKind,
+}
+
+/// Why a text isn't read.
+#[derive(Clone, Copy, Debug, PartialEq, Eq)]
+pub enum ReadStop {
+    /// The text's first fault.
+    Fault(ReadFault),
+    /// Memory was refused.
+    OutOfMemory,
+}
+
+impl From<AllocError> for ReadStop {
+    ghost from_gives = { λ _ stop. stop ≡ read_stop.OutOfMemory };
+
+    fn from(_: AllocError) -> Self {
+        ReadStop::OutOfMemory
+    }
+}
+
+impl<T: Drop> From<AllocFailed<T>> for ReadStop {
+    ghost from_gives = { λ _ stop. stop ≡ read_stop.OutOfMemory };
+
+    fn from(_: AllocFailed<T>) -> Self {
+        ReadStop::OutOfMemory
+    }
 }

@@ -1,15 +1,14 @@
-//! Laws of the grammar. Each function does nothing; its contract is the law.
-ghost use Rattle.std.specs.Prelude.{◌≡◌, ◌≢◌, ℕ, true, List, [], Ok, Err};
-ghost use Rattle.ml_token.specs.Tokens.{first_token};
-ghost use Rattle.ml_token.specs.declared.tokens.Token.{Token};
-ghost use Rattle.ml_token.specs.declared.tokens.TokenFault.{TokenFault};
-ghost use Rattle.ml_token.specs.declared.tokens.TokenKind.TheVariants.{Eof};
-ghost use Rattle.ml_reader.specs.Lexemes.{Lexeme, Written, turned_onto};
-ghost use Rattle.ml_reader.specs.Parser.{Fault, State, root, step, unexpected, want};
-ghost use Rattle.ml_reader.specs.Tokens.{Context, behind, lexeme, nothing_before};
-ghost use Rattle.ml_reader.specs.Standing.{Stands};
+//! Laws of the grammar and of texts. Each function does nothing; its contract is the law.
+ghost use Rattle.std.specs.Prelude.{◌≡◌, ◌<◌, ◌^◌, ◌⊎◌, ℕ, List, [], length};
+ghost use Rattle.std.specs.List.{AllByRecursion};
 ghost use Rattle.ml_reader.specs.Exact.{Exact, answer};
-ghost use Rattle.ml_reader.specs.Reading.{GoesWrong, Reads, Stop, faulty, stray};
+ghost use Rattle.ml_reader.specs.Faults.{HasFault, HasFirstFault};
+ghost use Rattle.ml_reader.specs.Lexemes.{Lexeme, Written};
+ghost use Rattle.ml_reader.specs.Parser.{root, want};
+ghost use Rattle.ml_reader.specs.Texts.{IsRead, IsWellRead};
+ghost use Rattle.ml_reader.specs.declared.fault.ReadFault.{ReadFault};
+
+use ml_token::token_laws::tokens_stand_in_their_text;
 
 /// The automaton reads exactly the texts of the grammar, each as its only list of clauses, and stops at the first token with
 /// which no text goes on. There it tells whether some text would go on if no priority counted.
@@ -19,27 +18,33 @@ pub fn the_parser_is_exact()
 
 /// A text is at most one list of clauses.
 pub fn a_text_has_one_reading()
-    ensures { (bytes : List ℕ) (cs ds : List Written) → Reads bytes cs → Reads bytes ds → cs ≡ ds }
+    ensures { (bytes : List ℕ) (cs ds : List Written) → IsRead bytes cs → IsRead bytes ds → cs ≡ ds }
 {}
 
-/// A text that goes wrong somewhere is no list of clauses.
-pub fn a_wrong_text_has_no_reading()
-    ensures { (bytes : List ℕ) (stop : Stop) (cs : List Written) → GoesWrong bytes stop → Reads bytes cs → ⊥ }
-{}
+/// A text has at most one first fault.
+pub fn a_text_has_one_first_fault()
+    ensures { (bytes : List ℕ) (f g : ReadFault) → HasFirstFault bytes f → HasFirstFault bytes g → f ≡ g }
+{
+    tokens_stand_in_their_text();
+}
 
-/// A text goes wrong first at one place at most, and in one way.
-pub fn a_text_goes_wrong_once()
-    ensures { (bytes : List ℕ) (one other : Stop) → GoesWrong bytes one → GoesWrong bytes other → one ≡ other }
-{}
+/// A text that is read has no fault, so none is read and has a first fault.
+pub fn a_text_that_is_read_has_no_fault()
+    ensures { (bytes : List ℕ) (cs : List Written) (met : ℕ) (f : ReadFault) → IsRead bytes cs → HasFault bytes met f → ⊥ }
+{
+    tokens_stand_in_their_text();
+}
 
-/// The parser over the tokens of a text: it stands at the beginning between clauses, and it stands on where it takes a token.
-/// Where it stands between clauses at the end of the text, it has read the text's clauses; elsewhere the text goes wrong at
-/// its end. At a token that has a fault or that the parser refuses, the text goes wrong there.
-pub fn the_parser_reads_texts()
-    ensures start { (bytes : List ℕ) → Stands bytes nothing_before (want (root [])) }
-    ensures on { (bytes : List ℕ) (c : Context) (s next : State) (t : Token) → Stands bytes c s → first_token bytes c.to ≡ Ok t → t.kind ≢ Eof → step true s (lexeme bytes c t) ≡ Ok next → Stands bytes (behind bytes c t) next }
-    ensures whole { (bytes : List ℕ) (c : Context) (cs : List Written) (t : Token) → Stands bytes c (want (root cs)) → first_token bytes c.to ≡ Ok t → t.kind ≡ Eof → Reads bytes (turned_onto cs []) }
-    ensures cut { (bytes : List ℕ) (c : Context) (s : State) (t : Token) → Stands bytes c s → first_token bytes c.to ≡ Ok t → t.kind ≡ Eof → ((cs : List Written) → s ≢ want (root cs)) → GoesWrong bytes (stray unexpected t.from) }
-    ensures faulty { (bytes : List ℕ) (c : Context) (s : State) (fault : TokenFault) → Stands bytes c s → first_token bytes c.to ≡ Err fault → GoesWrong bytes (faulty fault) }
-    ensures refused { (bytes : List ℕ) (c : Context) (s : State) (t : Token) (k : Fault) → Stands bytes c s → first_token bytes c.to ≡ Ok t → t.kind ≢ Eof → step true s (lexeme bytes c t) ≡ Err k → GoesWrong bytes (stray k t.from) }
-{}
+/// A text of fewer than 4294967296 bytes is read or has a first fault.
+pub fn a_text_is_read_or_has_a_first_fault()
+    ensures { (bytes : List ℕ) → length bytes < 2 ^ 32 → ((cs : List Written) × IsRead bytes cs) ⊎ ((f : ReadFault) × HasFirstFault bytes f) }
+{
+    tokens_stand_in_their_text();
+}
+
+/// Each clause that is read is a term of the language, with its variables numbered from 0 by first place and their names.
+pub fn what_is_read_is_well_read()
+    ensures { (bytes : List ℕ) (cs : List Written) → IsRead bytes cs → AllByRecursion IsWellRead cs }
+{
+    tokens_stand_in_their_text();
+}

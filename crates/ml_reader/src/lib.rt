@@ -7,6 +7,7 @@
 #![tactic(auto)]
 
 mod building;
+mod clauses;
 mod context;
 mod fault;
 mod frames;
@@ -17,12 +18,18 @@ mod limited;
 mod limits;
 mod operators;
 mod parser;
+mod script;
+mod script_draft;
+mod script_item;
+pub mod script_laws;
+#[cfg(test)]
+mod script_tests;
 #[cfg(test)]
 mod tests;
+mod turn;
 
-pub use fault::{ReadFault, ReadKind};
-pub use frames::{Arguments, Bracket, Frame, Next, Refusal, State};
-pub use lexeme::{Lexeme, Magnitude, Mark, Names, Read};
+pub use clauses::read_clauses;
+pub use fault::{ReadFault, ReadKind, ReadStop};
+pub use lexeme::{Names, Read};
 pub use limits::{INTEGER_OFFSET, MOST_ARGUMENTS, MOST_LEVELS, MOST_NODES, MOST_TOKENS};
-pub use operators::Sides;
-pub use parser::step;
+pub use script::read_script;

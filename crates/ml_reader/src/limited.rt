@@ -5,7 +5,7 @@ ghost use Rattle.ml_reader.specs.Frames.{stack, state_seen};
 ghost use Rattle.ml_reader.specs.Grammar.{joins};
 ghost use Rattle.ml_reader.specs.Operators.{prefix_of as prefix_of_table};
 ghost use Rattle.ml_reader.specs.Seen.{lexeme_seen, read_seen};
-ghost use Rattle.ml_reader.specs.Limits.{checked, fault_at, is_lone as is_lone_number, joined as joined_with, stopped as stopped_at, levels as levels_of, limited as limited_of, makes_prefix, name_too_deep, opens_past};
+ghost use Rattle.ml_reader.specs.Limits.{checked, fault_at, is_lone as is_lone_number, joined as joined_with, stopped as stopped_at, levels as levels_of, limited as limited_of, makes_prefix as makes_prefix_of, name_too_deep as name_too_deep_of, opens_past, too_many as too_many_at};
 ghost use Rattle.ml_reader.specs.LimitsSeen.{taken_seen};
 
 use crate::fault::{ReadFault, ReadKind};
@@ -35,6 +35,9 @@ pub enum Taken {
     Go(State),
     /// A clause ended.
     Clause(Read),
+    /// A name that is one token too many, and that opens a level past the limit too if what follows makes a prefix operator
+    /// of it.
+    Late(State),
     Stop(ReadFault),
 }
 
@@ -49,6 +52,18 @@ fn joins_to(minus: bool, lexeme: &Lexeme) -> bool
     }
 }
 
+/// Whether a token makes a prefix operator of the name before it, if it is an operator.
+pub fn makes_prefix(state: &State, lexeme: &Lexeme) -> bool
+    ensures { result ≡ makes_prefix_of (state_seen state.now) (lexeme_seen lexeme.now) }
+{
+    match state {
+        State::Word(minus, name, _) => {
+            !joins_to(*minus, lexeme) && !closes(lexeme) && is_operator(name)
+        }
+        _ => false,
+    }
+}
+
 /// Whether a name, as a prefix operator, opens a level past the limit.
 fn opens_past_limit(name: &Name, frames: &[Frame]) -> bool
     ensures { result ≡ opens_past (prefix_of_table name.now) (stack frames.now) }
@@ -59,28 +74,25 @@ fn opens_past_limit(name: &Name, frames: &[Frame]) -> bool
     }
 }
 
-/// Whether a token makes the name before it a prefix operator that opens a level past the limit.
-fn prefix_too_deep(state: &State, lexeme: &Lexeme) -> bool
-    ensures { result ≡ (makes_prefix (state_seen state.now) (lexeme_seen lexeme.now) && name_too_deep (state_seen state.now)) }
+/// Whether the name that was read last opens a level past the limit, if it is a prefix operator.
+pub fn name_too_deep(state: &State) -> bool
+    ensures { result ≡ name_too_deep_of (state_seen state.now) }
 {
     match state {
-        State::Word(minus, name, frames) => {
-            (!joins_to(*minus, lexeme) && is_operator(name) && !closes(lexeme))
-                && opens_past_limit(name, frames.as_slice())
-        }
+        State::Word(_, name, frames) => opens_past_limit(name, frames.as_slice()),
         _ => false,
     }
 }
 
-/// How many levels are open.
+/// How many levels are open where a term may begin.
 fn levels(state: &State) -> usize
     ensures { result ≡ levels_of (state_seen state.now) }
 {
     match state {
         State::Want(frames) => frames.len(),
         State::Fresh(_, frames) => 1 + frames.len(),
-        State::Word(_, _, frames) => frames.len(),
-        State::Have(_, _, frames) => frames.len(),
+        State::Word(_, _, _) => 0,
+        State::Have(_, _, _) => 0,
     }
 }
 
@@ -110,6 +122,17 @@ fn stop(kind: ReadKind, place: usize) -> Taken
     Taken::Stop(ReadFault { place, kind })
 }
 
+/// A token that is one too many.
+fn too_many(here: Here, next: State) -> Taken
+    ensures { taken_seen result ≡ too_many_at here (state_seen next) }
+{
+    if name_too_deep(&next) {
+        Taken::Late(next)
+    } else {
+        stop(ReadKind::ClauseTooLong, here.place)
+    }
+}
+
 /// A token that the parser takes.
 fn within(here: Here, lone: bool, next: State) -> Taken
     ensures { taken_seen result ≡ checked here lone (Ok (state_seen next)) }
@@ -117,7 +140,7 @@ fn within(here: Here, lone: bool, next: State) -> Taken
     if levels(&next) > MOST_LEVELS {
         stop(ReadKind::TooDeep, here.place)
     } else if here.tokens >= MOST_TOKENS {
-        stop(ReadKind::ClauseTooLong, here.place)
+        too_many(here, next)
     } else if lone {
         stop(ReadKind::NumberTooLarge, here.place)
     } else {
@@ -168,7 +191,7 @@ fn refused(here: Here, lone: bool, refusal: Refusal) -> Taken
 pub fn limited(alloc: Global, here: Here, state: State, lexeme: Lexeme) -> Result<Taken, AllocError>
     ensures { IfOk result (λ r. taken_seen r ≡ limited_of here (state_seen state) (lexeme_seen lexeme)) }
 {
-    if prefix_too_deep(&state, &lexeme) {
+    if makes_prefix(&state, &lexeme) && name_too_deep(&state) {
         return Ok(stop(ReadKind::TooDeep, here.last));
     }
     let lone = is_lone(&state, &lexeme);

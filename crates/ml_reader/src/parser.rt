@@ -326,7 +326,7 @@ fn operand_or_prefix(
 ) -> Result<Next, AllocError>
     ensures { IfOk result (λ r. next_seen r ≡ few (operand_or_prefix_of true (not (is_operator_table name) || closes_of (lexeme_seen lexeme)) name (lexeme_seen lexeme) (stack frames.items))) }
 {
-    if !is_operator(&name) || closes(&lexeme) {
+    if closes(&lexeme) || !is_operator(&name) {
         had(alloc, lexeme, 0, Term::Atom(name), frames)
     } else {
         prefixed(name, lexeme, frames)

@@ -1,67 +1,55 @@
-// Clauses that are read token by token.
-use crate::frames::{Next, State};
-use crate::lexeme::{Lexeme, Magnitude, Mark, Names};
-use crate::parser::step;
-use ml_term::{Name, nodes_up_to};
+// Texts through their bytes: what is read, and where the others go wrong first.
+ghost use Rattle.std.specs.Prelude.{◌<◌, ◌^◌, length};
+
+use crate::clauses::read_clauses;
+use crate::fault::{ReadKind, ReadStop};
+use ml_term::nodes_up_to;
 use std::alloc::{AllocError, Global};
 use std::process::Abort;
 use std::test::Fail;
 
-/// The token of one of these signs, or else of a name of one byte.
-fn sign(alloc: Global, b: u8) -> Result<Lexeme, AllocError> {
-    Ok(match b {
-        b'(' => Lexeme::Paren(true),
-        b')' => Lexeme::Close,
-        b'[' => Lexeme::Bracket,
-        b']' => Lexeme::Unbracket,
-        b'{' => Lexeme::Brace,
-        b'}' => Lexeme::Unbrace,
-        b',' => Lexeme::Comma,
-        b'|' => Lexeme::Bar,
-        b'X' => Lexeme::Unknown(0),
-        b'1' => Lexeme::Number(true, Magnitude { value: 1 }),
-        b'.' => Lexeme::End(Mark {
-            names: Names::new(alloc),
-            place: 0,
-        }),
-        b'-' => Lexeme::Name(false, Name::new(alloc, b"-")?),
-        b'=' => Lexeme::Name(false, Name::new(alloc, b"=")?),
-        _ => Lexeme::Name(false, Name::new(alloc, b"a")?),
-    })
+/// What a text comes to: its number of clauses with the nodes of the last one, or its first fault.
+#[derive(Clone, Copy, Debug, PartialEq, Eq)]
+enum Told {
+    Clauses(usize, usize),
+    Fault(ReadKind, usize),
 }
 
-/// How many nodes the clause has that the signs spell; none where a sign is refused or the clause doesn't end.
-fn nodes_of(alloc: Global, signs: &[u8]) -> Result<usize, AllocError> {
-    let mut state = State::Want(Vec::new(alloc));
-    for b in signs {
-        match step(alloc, state, sign(alloc, *b)?)? {
-            Next::Go(next) => state = next,
-            Next::Clause(read) => return Ok(nodes_up_to(&read.term, 100)),
-            Next::Stop(_) => return Ok(0),
+fn told(alloc: Global, bytes: &[u8]) -> Result<Told, AllocError>
+    requires { length bytes.now < 2 ^ 32 }
+{
+    match read_clauses(alloc, bytes) {
+        Ok(clauses) => {
+            let nodes = match clauses.as_slice().split_last() {
+                Some((read, _)) => nodes_up_to(&read.term, 5000),
+                None => 0,
+            };
+            Ok(Told::Clauses(clauses.len(), nodes))
         }
+        Err(ReadStop::Fault(fault)) => Ok(Told::Fault(fault.kind, fault.place)),
+        Err(ReadStop::OutOfMemory) => Err(AllocError),
     }
-    Ok(0)
 }
 
 #[test]
-fn clauses_are_read_token_by_token(rt: HostRuntime) -> Result<(), Fail> {
+fn texts_are_read_or_refused_at_their_first_fault(rt: HostRuntime) -> Result<(), Fail> {
     let alloc = rt.alloc();
-    let table: [(&[u8], usize); 12] = [
-        (b"a.", 1),
-        (b"a-a-a.", 5),
-        (b"a=a=a.", 0),
-        (b"a(a,X,1).", 4),
-        (b"a(a,X,1", 0),
-        (b"[a,a|X].", 5),
-        (b"[a,a].", 5),
-        (b"[a|a,a].", 0),
-        (b"{a,a}.", 4),
-        (b"-1.", 1),
-        (b"-a.", 2),
-        (b"[](a).", 2),
+    let table: [(&[u8], Told); 12] = [
+        (b"a.", Told::Clauses(1, 1)),
+        (b"a-a-a.", Told::Clauses(1, 5)),
+        (b"a = b = c.", Told::Fault(ReadKind::PriorityClash, 6)),
+        (b"p(1", Told::Fault(ReadKind::Unexpected, 3)),
+        (b"p(1)", Told::Fault(ReadKind::Unexpected, 4)),
+        (b"p(\"x\").", Told::Fault(ReadKind::LeftOutQuote, 2)),
+        (b"p(:- a)", Told::Fault(ReadKind::PriorityClash, 5)),
+        (b"a = :- = b", Told::Fault(ReadKind::PriorityClash, 7)),
+        (b"= b", Told::Fault(ReadKind::Unexpected, 2)),
+        (b"- = X.", Told::Clauses(1, 3)),
+        (b"a = \\+ b", Told::Fault(ReadKind::PriorityClash, 7)),
+        (b"[a|b,c]", Told::Fault(ReadKind::Unexpected, 4)),
     ];
-    for (signs, nodes) in table {
-        assert_eq!(rt; nodes_of(alloc, signs)?, nodes, "{signs:?}");
+    for (text, want) in table {
+        assert_eq!(rt; told(alloc, text)?, want, "{text:?}");
     }
     Ok(())
 }

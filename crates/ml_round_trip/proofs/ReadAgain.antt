@@ -15,7 +15,7 @@ use Rattle.ml_reader.specs.Lexemes.{Written, written, Lexeme, end}
 use Rattle.ml_reader.specs.Tokens.{nothing_before, Ends}
 use Rattle.ml_reader.specs.Grammar.{IsText, no_clause, a_clause}
 use Rattle.ml_reader.specs.Reading.{Reads}
-use Rattle.ml_reader.proofs.ReadingLaws.{only_tokens, only_reading}
+use Rattle.ml_reader.proofs.TextLaws.{only_tokens, only_reading}
 use Rattle.ml_reader.specs.declared.limits.TheConstants.{MOST_LEVELS, MOST_NODES}
 use Rattle.ml_reader.specs.Levels.{deepest_in}
 use Rattle.ml_reader.specs.Texts.{IsRead}

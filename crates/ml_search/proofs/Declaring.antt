@@ -21,11 +21,11 @@ use Rattle.ml_search.specs.DeclTable.{IsDeclared}
 abbrev pub is_same : Pred → Pred → Bool
 is_same p q = bytes_eq p.name q.name && (p.arity == q.arity)
 
-equal_swapped : (m n : ℕ) → (m == n) ≡ (n == m)
+pub equal_swapped : (m n : ℕ) → (m == n) ≡ (n == m)
 equal_swapped m n =
     same_from_decides {P = m ≡ n} (m == n) (n == m) (eqb-true m n, eq-eqb m n) ((λ e. sym (eqb-true n m e)), (λ e. eq-eqb n m (sym e)))
 
-names_swapped : (f g : List ℕ) → bytes_eq f g ≡ bytes_eq g f
+pub names_swapped : (f g : List ℕ) → bytes_eq f g ≡ bytes_eq g f
 names_swapped f g =
     same_from_decides {P = f ≡ g} (bytes_eq f g) (bytes_eq g f) (bytes_decides f g) ((λ e. sym ((bytes_decides g f).0 e)), (λ e. (bytes_decides g f).1 (sym e)))
 
@@ -125,3 +125,40 @@ declared_more es p d h same none few = record {
   once = ap are_declared_once (map-append (λ e. e.1) es ((p, d) ∷ [])) ∙ once_more (map (λ e. e.1) es) d h.once none;
   few = omega (arith, length-append es ((p, d) ∷ []));
 }
+
+-- the declaration at the place of a predicate is one of it
+pub declared_at : (ds : List Decl) (f : List ℕ) (n k : ℕ) → place_of ds f n ≡ Some k → (d : Decl) × (slice_get ds k ≡ Some d) × (has_predicate f n d ≡ true)
+declared_at [] f n k e = cc
+declared_at (d ∷ ds) f n k e = by (has_predicate f n d) refl (place_of ds f n) refl e (declared_at ds f n)
+  where
+    later : (j : ℕ) → suc j ≡ k → (c : Decl) × (slice_get ds j ≡ Some c) × (has_predicate f n c ≡ true) → (c : Decl) × (slice_get (d ∷ ds) k ≡ Some c) × (has_predicate f n c ≡ true)
+    later j same h = (h.0, sym (ap (slice_get (d ∷ ds)) same) ∙ h.1, h.2)
+
+    by : (b : Bool) → has_predicate f n d ≡ b → (r : Option ℕ) → place_of ds f n ≡ r → cond b (Some 0) (option_map suc r) ≡ Some k
+        → ((j : ℕ) → place_of ds f n ≡ Some j → (c : Decl) × (slice_get ds j ≡ Some c) × (has_predicate f n c ≡ true))
+        → (c : Decl) × (slice_get (d ∷ ds) k ≡ Some c) × (has_predicate f n c ≡ true)
+    by true here r there h found = let same : 0 ≡ k = cc h in (d, sym (ap (slice_get (d ∷ ds)) same), here)
+    by false here None there h found = cc h
+    by false here (Some j) there h found = let same : suc j ≡ k = cc h in later j same (found j there)
+
+none_in_front : (f : List ℕ) (n : ℕ) (ds es : List Decl) → place_of (ds ++ es) f n ≡ None → place_of ds f n ≡ None
+none_in_front f n [] es none = refl
+none_in_front f n (d ∷ ds) es none =
+    let here = not_some _ _ none in
+    ap (λ b. cond b (Some 0) (option_map suc (place_of ds f n))) here.0 ∙ ap (option_map suc) (none_in_front f n ds es here.1)
+
+none_behind : (f : List ℕ) (n : ℕ) (ds es : List Decl) → place_of (ds ++ es) f n ≡ None → place_of es f n ≡ None
+none_behind f n [] es none = none
+none_behind f n (d ∷ ds) es none = none_behind f n ds es (not_some _ _ none).1
+
+-- a declaration among others is of another predicate than those before it
+pub declared_before : (ds : List Decl) (d : Decl) (es : List Decl) → are_declared_once (ds ++ d ∷ es) ≡ true → (are_declared_once ds ≡ true) × (place_of ds d.pred.name d.pred.arity ≡ None)
+declared_before [] d es once = (refl, refl)
+declared_before (c ∷ ds) d es once =
+    let parts = and_parts _ _ once in
+    let rest = declared_before ds d es parts.1 in
+    let apart = is_none_none _ parts.0 in (
+      and_from _ _ (ap is_none (none_in_front c.pred.name c.pred.arity ds (d ∷ es) apart)) rest.0,
+      ap (λ b. cond b (Some 0) (option_map suc (place_of ds d.pred.name d.pred.arity))) (has_swapped d c ∙ (not_some _ _ (none_behind c.pred.name c.pred.arity ds (d ∷ es) apart)).0)
+          ∙ ap (option_map suc) rest.1,
+    )

@@ -18,3 +18,14 @@ pub mod Declaring
 pub mod WellFormedParts
 pub mod ReservedNames
 pub mod Callable
+pub mod Chains
+pub mod ShiftedTrees
+pub mod Deciding
+pub mod OneBindingMore
+pub mod ArgumentsPushed
+pub mod SolvingTurns
+pub mod Resolved
+pub mod RenamedApart
+pub mod TermsBuilt
+pub mod Meetings
+pub mod Widths

@@ -37,3 +37,7 @@ pub mod RowsEndings
 pub mod RowsStored
 pub mod RowsTerms
 pub mod RowsReplay
+pub mod Triangular
+pub mod Unifying
+pub mod MapSeen
+pub mod Meeting

@@ -14,3 +14,6 @@ pub const MOST_DECLARATIONS: usize = 4294967295;
 
 /// The most canonical bytes of an item.
 pub const MOST_ITEM_BYTES: usize = 4096;
+
+/// The most levels of a term that unification builds: a deeper one is answered as want of memory.
+pub const MOST_LEVELS: usize = 4096;

@@ -1,7 +1,7 @@
 //! Programs.
 ghost use Rattle.std.specs.Prelude.{◌≡◌, IsTrue, IfOk};
 ghost use Rattle.ml_search.specs.ClauseSeen.{clauses_seen};
-ghost use Rattle.ml_search.specs.WellFormed.{is_program};
+ghost use Rattle.ml_search.specs.WellFormed.{are_undeclared, is_program};
 
 use crate::clauses::Clauses;
 use crate::decls::Decls;
@@ -18,10 +18,11 @@ pub struct Program {
 impl Program {
     /// The program of declarations and clauses of other predicates.
     pub fn new(decls: Decls, clauses: Clauses) -> Program
-        requires { IsTrue (is_program (record { decls = decls; clauses = clauses_seen clauses })) }
+        requires { IsTrue (are_undeclared decls (clauses_seen clauses)) }
         ensures decls { result.decls ≡ decls }
         ensures clauses { result.clauses ≡ clauses }
     {
+        let _count = decls.len();
         Program { decls, clauses }
     }
 

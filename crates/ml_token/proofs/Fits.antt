@@ -17,13 +17,14 @@ use Rattle.ml_token.specs.declared.tokens.TokenKind.{TokenKind}
 use Rattle.ml_token.specs.declared.tokens.TokenKind.TheVariants.{Name, Variable, Number, Punct, End, Eof}
 use Rattle.ml_token.specs.declared.tokens.TokenFaultKind.{TokenFaultKind}
 use Rattle.ml_token.specs.Bytes.{is_small, is_capital, is_digit, is_alphanumeric, is_symbol, is_one_of, in_run, begun_by}
-use Rattle.ml_token.specs.Gap.{begins_with}
+use Rattle.ml_token.specs.Gap.{begins_with, gap_len}
 use Rattle.ml_token.specs.Number.{value_of}
 use Rattle.ml_token.specs.Quoted.{IsWithin, part_of, behind_quote, behind_backslash, escaped, escape_of, Inside, inside, with_byte, quoted_end, quoted_name}
 use Rattle.ml_token.specs.declared.quoted.Part.{Part}
 use Rattle.ml_token.specs.declared.quoted.Part.TheVariants.{Spelled, Last}
-use Rattle.ml_token.specs.Tokens.{sized, faulty, name_of_len, number_at, ends_clause, symbols_at, begun_at, token_at}
+use Rattle.ml_token.specs.Tokens.{sized, faulty, name_of_len, number_at, ends_clause, symbols_at, begun_at, token_at, first_token}
 use Rattle.ml_token.specs.Values.{is_name_byte, is_name, HasValue, StandsIn}
+use Rattle.ml_token.proofs.Gaps.{gap_len-within}
 use Rattle.ml_token.proofs.Names.{both_hold, if_cases, is_one_of-passes, symbol-is_name_byte, alphanumeric-is_name_byte, run-passes, inside-passes}
 
 -- what stands at the place of this text
@@ -239,3 +240,21 @@ pub fault-stands : (bytes : List ℕ) (at gap : ℕ) (r : Result Token TokenFaul
     → Fits (at + gap) (drop (at + gap) bytes) r → IfErr r (λ f. (at ≤ f.place) × (f.place < length bytes))
 fault-stands bytes at gap (Ok t) within fits = tt
 fault-stands bytes at gap (Err f) within fits = (omega arith, omega (arith, length-drop (at + gap) bytes))
+
+-- a gap from a place in the text on ends in the text
+gap-ends : (bytes : List ℕ) (at : ℕ) → at ≤ length bytes → at + gap_len 0 (drop at bytes) ≤ length bytes
+gap-ends bytes at within = omega (arith, gap_len-within 0 (drop at bytes), length-drop at bytes)
+
+pub first-stands : (bytes : List ℕ) (at : ℕ) (t : Token) → at ≤ length bytes → first_token bytes at ≡ Ok t → StandsIn bytes at t
+unfolding first_token
+first-stands bytes at t within is =
+    let gap : ℕ = gap_len 0 (drop at bytes) in
+    stands-in bytes at gap t (gap-ends bytes at within) (subst (λ r. Fits (at + gap) (drop (at + gap) bytes) r) is (fits-first_token bytes at gap))
+
+pub first-fails : (bytes : List ℕ) (at : ℕ) (f : TokenFault) → at ≤ length bytes → first_token bytes at ≡ Err f → (at ≤ f.place) × (f.place < length bytes)
+unfolding first_token
+first-fails bytes at f within is =
+    let gap : ℕ = gap_len 0 (drop at bytes) in
+    let ends = gap-ends bytes at within in
+    let fits = subst (λ r. Fits (at + gap) (drop (at + gap) bytes) r) is (fits-first_token bytes at gap) in
+    (omega arith, omega (arith, length-drop (at + gap) bytes))

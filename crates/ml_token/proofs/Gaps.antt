@@ -19,3 +19,12 @@ gap_len-piece (b ∷ bs) some within =
       | zero ↦ λ none w. absurd (none refl)
       | suc k ↦ λ s w. let shorter : k ≤ length bs = omega arith in omega (arith, gap_len-skip k bs shorter)
     ] some within
+
+-- a gap stands within its text
+pub gap_len-within : (k : ℕ) (bs : List ℕ) → gap_len k bs ≤ length bs
+gap_len-within k [] = omega arith
+gap_len-within (suc k) (b ∷ bs) = omega (arith, gap_len-within k bs)
+gap_len-within zero (b ∷ bs) = elim (piece_len (b ∷ bs)) as (λ n. elim n [ zero ↦ 0 | suc k ↦ 1 + gap_len k bs ] ≤ length (b ∷ bs)) [
+  | zero ↦ omega arith
+  | suc k ↦ omega (arith, gap_len-within k bs)
+]

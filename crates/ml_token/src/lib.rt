@@ -15,6 +15,7 @@ mod quoted;
 mod scan;
 #[cfg(test)]
 mod tests;
+pub mod token_laws;
 mod tokens;
 mod values;
 

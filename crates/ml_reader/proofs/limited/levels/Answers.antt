@@ -9,9 +9,3 @@ returns-in-Want c = omega (arith, c.len.ensures, depth_stack c.in-Want.frames.it
 
 pub returns-in-Fresh : goal.returns-in-Fresh
 returns-in-Fresh c = omega (arith, c.len-in-Fresh.ensures, depth_stack c.in-Fresh.frames.items, ap (λ s. levels (state_seen s)) c.in-Fresh.is)
-
-pub returns-in-Word : goal.returns-in-Word
-returns-in-Word c = omega (arith, c.len-in-Word.ensures, depth_stack c.in-Word.frames.items, ap (λ s. levels (state_seen s)) c.in-Word.is)
-
-pub returns-in-Have : goal.returns-in-Have
-returns-in-Have c = omega (arith, c.len-in-Have.ensures, depth_stack c.in-Have.frames.items, ap (λ s. levels (state_seen s)) c.in-Have.is)

@@ -4,7 +4,7 @@ use Rattle.std.proofs.lemmas.Bool.{le-ltb}
 use Rattle.ml_reader.specs.Frames.{state_seen}
 use Rattle.ml_reader.specs.Limits.{levels}
 use Rattle.ml_reader.specs.declared.limits.TheConstants.{MOST_LEVELS, MOST_TOKENS}
-use Rattle.ml_reader.proofs.Complete.{leb_not}
+use Rattle.ml_reader.proofs.Following.{leb_not}
 use Rattle.ml_reader.proofs.Depths.{sized_seen}
 use Rattle.ml_reader.proofs.limited.within.Goals as goal
 

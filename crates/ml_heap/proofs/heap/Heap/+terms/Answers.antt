@@ -9,5 +9,7 @@ term_at-terms_at-requires t c =
     (omega (arith, n, c.decreases), arguments_are_inside _ _ _ _ _ _ _ _ c.at.ensures c.end_at.ensures.told c.in-Cmp.is c.as_slice.ensures.same)
 
 pub terms_at-term_at-requires : goal.terms_at-term_at-requires
-terms_at-term_at-requires t c =
-    (omega (arith, nodes_of_one c.args.self.now c.args.places.now c.loop-place.place-index c.loop-place-test.true, c.decreases), c.requires c.loop-place.place-index c.loop-place-test.true)
+terms_at-term_at-requires t c = (
+  omega (arith, nodes_of_one c.args.self.now c.args.places.now c.loop-place.place-index c.loop-place-test.true, c.decreases),
+  c.requires c.loop-place.place-index c.loop-place-test.true,
+)

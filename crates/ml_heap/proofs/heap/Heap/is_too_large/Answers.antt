@@ -8,7 +8,15 @@ push_arguments-requires c = last_inside _ _ _ _ c.in-Some.ensures.items c.loop-a
 
 pub returns-then-count-len-gt-MOST_NODES : goal.returns-then-count-len-gt-MOST_NODES
 returns-then-count-len-gt-MOST_NODES c =
-    is_above 4096 _ (omega (arith, as_many c.args.self.now _ _ _ c.in-Some.ensures.items, c.in_ok-push_arguments.ensures.nodes, c.loop-at.invariant.counted, nodes_at_least c.args.self.now c.push_arguments.new.left.items, c.if-count-len-gt-MOST_NODES.true, c.len.ensures))
+    is_above 4096 _ (omega (
+      arith,
+      as_many c.args.self.now _ _ _ c.in-Some.ensures.items,
+      c.in_ok-push_arguments.ensures.nodes,
+      c.loop-at.invariant.counted,
+      nodes_at_least c.args.self.now c.push_arguments.new.left.items,
+      c.if-count-len-gt-MOST_NODES.true,
+      c.len.ensures,
+    ))
 
 pub loop-at-smaller : goal.loop-at-smaller
 loop-at-smaller c = omega (arith, as_many c.args.self.now _ _ _ c.in-Some.ensures.items, c.in_ok-push_arguments.ensures.nodes)

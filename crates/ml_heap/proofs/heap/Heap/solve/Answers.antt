@@ -24,13 +24,15 @@ turn-requires-clause-left_inside c = rest_below _ _ _ _ c.in-Some.ensures.items 
 pub returns-then-not-branch-clause-found : goal.returns-then-not-branch-clause-found
 returns-then-not-branch-clause-found c =
     let now = trees c.loop-a.self in
-    let reached = subst (Reached (trees c.args.self.now) (left_by (trees c.args.self.now) c.args.left.items) now) (taken _ _ _ _ c.in-Some.ensures.items now) c.loop-a.invariant.reached in
+    let reached =
+    subst (Reached (trees c.args.self.now) (left_by (trees c.args.self.now) c.args.left.items) now) (taken _ _ _ _ c.in-Some.ensures.items now) c.loop-a.invariant.reached in
     sym (ap is_some (none_found _ _ _ _ _ _ (c.in_ok-turn.ensures.clashed c.if-not-branch.true) reached))
 
 pub returns-then-not-branch-clause-replaced : goal.returns-then-not-branch-clause-replaced
 returns-then-not-branch-clause-replaced c m e =
     let now = trees c.loop-a.self in
-    let reached = subst (Reached (trees c.args.self.now) (left_by (trees c.args.self.now) c.args.left.items) now) (taken _ _ _ _ c.in-Some.ensures.items now) c.loop-a.invariant.reached in
+    let reached =
+    subst (Reached (trees c.args.self.now) (left_by (trees c.args.self.now) c.args.left.items) now) (taken _ _ _ _ c.in-Some.ensures.items now) c.loop-a.invariant.reached in
     no_replacing _ _ _ _ _ _ (c.in_ok-turn.ensures.clashed c.if-not-branch.true) reached _ m e
 
 pub loop-a-smaller : goal.loop-a-smaller
@@ -42,7 +44,8 @@ loop-a-smaller c =
 pub loop-a-preserved : goal.loop-a-preserved
 loop-a-preserved c =
     let now = trees c.loop-a.self in
-    let reached = subst (Reached (trees c.args.self.now) (left_by (trees c.args.self.now) c.args.left.items) now) (taken _ _ _ _ c.in-Some.ensures.items now) c.loop-a.invariant.reached in
+    let reached =
+    subst (Reached (trees c.args.self.now) (left_by (trees c.args.self.now) c.args.left.items) now) (taken _ _ _ _ c.in-Some.ensures.items now) c.loop-a.invariant.reached in
     record {
       inside = subst (λ n. AreBelow n c.turn.new.left.items) (sym c.in_ok-turn.ensures.cells) c.in_ok-turn.ensures.inside;
       reached = goes_on _ _ _ _ _ _ reached (turn_leads _ _ _ _ _ _ (c.in_ok-turn.ensures.turned c.if-not-branch.false));
@@ -61,4 +64,5 @@ pub returns-clause-replaced : goal.returns-clause-replaced
 returns-clause-replaced c m e =
     let now = trees c.loop-a.self in
     let none = none_left c.loop-a.left.items _ _ _ _ c.in_default.ensures.cases.0 c.in_default.ensures.items c.in_default.ensures.rest c.in_default.ensures.len in
-    by_the_unifier _ _ _ (subst (λ ps. Reached (trees c.args.self.now) (left_by (trees c.args.self.now) c.args.left.items) now (left_by now ps)) none c.loop-a.invariant.reached) m e
+    by_the_unifier _ _ _ (subst (λ ps. Reached (trees c.args.self.now) (left_by (trees c.args.self.now) c.args.left.items) now (left_by now ps)) none
+    c.loop-a.invariant.reached) m e

@@ -1,0 +1,163 @@
+-- Where a term is wanted, the parser's frames are the levels that are open.
+use Rattle.std.specs.Prelude.{◌≡◌, ℕ, ◌+◌, ◌≤◌, Bool, true, false, ◌&&◌, not, IsTrue, List, [], ◌∷◌, ◌++◌, Option, Some, None, codes, Ok}
+use Rattle.std.proofs.Common.{refl, sym, ap, ◌∙◌, subst, arith, true≢false}
+use Rattle.ml_term.specs.Tree.{Trees, arity, no_trees, tree}
+use Rattle.ml_reader.specs.Lexemes.{Written, written, Lexeme, name, number, paren, bracket, brace, bar, comma, end}
+use Rattle.ml_reader.specs.Operators.{Operator, prefix_of, is_operator, infix_at, closes, fits}
+use Rattle.ml_reader.specs.Grammar.{Word, joins, Derives}
+use Rattle.ml_reader.specs.Parser.{before, between, parens, braces, arguments, elements, rest, Stack, root, ◌▹◌, State, want, fresh, word, have, commas, limit, had_as, step, read}
+use Rattle.ml_reader.specs.Levels.{Level, enclosed, in_argument, in_list, in_tail, right_of, commas_inside, greatest_inside, Wants, at_first, behind_clause, behind_paren, behind_brace, behind_bracket, behind_functor, behind_argument, behind_element, behind_bar, behind_prefix, behind_infix}
+use Rattle.ml_reader.specs.Limits.{makes_prefix}
+use Rattle.ml_reader.proofs.OperatorLaws.{infix_lawful, left_within}
+use Rattle.ml_reader.proofs.Paths.{opened, commas_opened, greatest_opened, fitted, prefix_path, path_before, Alike}
+use Rattle.ml_reader.proofs.Following.{by_infix, by_end, IsMore, Begins, begins, word_begins, place, fit, fit_again}
+use Rattle.ml_reader.proofs.Alikes.{bracket_alike, brace_alike, prefix_alike}
+use Rattle.ml_reader.proofs.Complete as C
+use Rattle.ml_reader.proofs.Sound.{Holds, placed_in, read_holds}
+
+pub same_some : {ls ms : List Level} → Some ls ≡ Some ms → ls ≡ ms
+same_some e = cc
+
+-- Where the levels say so, the frames are these.
+record InArguments (fs : Stack) (n : ℕ) (ls : List Level) : Type 0 where
+  functor : List ℕ
+  trees : Trees
+  below : Stack
+  frames : fs ≡ arguments functor trees ▹ below
+  count : 1 + arity trees ≡ n
+  levels : opened below ≡ ls
+
+in_arguments : (fs : Stack) (n : ℕ) (ls : List Level) → opened fs ≡ in_argument n ∷ ls → InArguments fs n ls
+in_arguments (arguments f ts ▹ fs) n ls e = record { functor = f; trees = ts; below = fs; frames = refl; count = cc; levels = cc }
+in_arguments fs n ls e = absurd cc
+
+record InList (fs : Stack) (ls : List Level) : Type 0 where
+  trees : Trees
+  below : Stack
+  frames : fs ≡ elements trees ▹ below
+  levels : opened below ≡ ls
+
+in_elements : (fs : Stack) (ls : List Level) → opened fs ≡ in_list ∷ ls → InList fs ls
+in_elements (elements ts ▹ fs) ls e = record { trees = ts; below = fs; frames = refl; levels = cc }
+in_elements fs ls e = absurd cc
+
+at_bottom : (fs : Stack) → opened fs ≡ [] → (cs : List Written) × (fs ≡ root cs)
+at_bottom (root cs) e = (cs, refl)
+at_bottom (before f o ▹ fs) e = absurd cc
+at_bottom (between o t ▹ fs) e = absurd cc
+at_bottom (parens ▹ fs) e = absurd cc
+at_bottom (braces ▹ fs) e = absurd cc
+at_bottom (arguments f ts ▹ fs) e = absurd cc
+at_bottom (elements ts ▹ fs) e = absurd cc
+at_bottom (rest ts ▹ fs) e = absurd cc
+
+begun_more : (ys : List Lexeme) → Begins ys → IsMore ys
+begun_more [] b = absurd b
+begun_more (y ∷ ys) b = tt
+
+module _ (P : State → List Lexeme → Type 0) (forward : (s r : State) (x y : Lexeme) (ys : List Lexeme) → step true s x ≡ Ok r → P s (x ∷ y ∷ ys) → P r (y ∷ ys)) (alike : (s r : State) (x : Lexeme) (ys : List Lexeme) → Alike s r x → P s (x ∷ ys) → P r (x ∷ ys)) where
+  -- the parser stands in these frames, or behind the bracket that opens the first of them
+  pub data Way : Stack → List Lexeme → Type 0 where
+    straight : {fs : Stack} {ys : List Lexeme} → P (want fs) ys → Way fs ys
+    at_bracket : {fs : Stack} {ys : List Lexeme} → P (fresh true fs) ys → Way (elements no_trees ▹ fs) ys
+    at_brace : {fs : Stack} {ys : List Lexeme} → P (fresh false fs) ys → Way (braces ▹ fs) ys
+
+  go_in : {fs : Stack} (ys : List Lexeme) → Begins ys → Way fs ys → P (want fs) ys
+  go_in ys b (straight h) = h
+  go_in ys b (at_bracket {fs = fs} h) = C.carry_fresh P forward alike ys fs b h
+  go_in ys b (at_brace {fs = fs} h) = C.carry_brace P forward alike ys fs b h
+
+  pub record Reached (ys : List Lexeme) (ls : List Level) : Type 0 where
+    pub frames : Stack
+    pub levels : opened frames ≡ ls
+    pub way : Way frames ys
+
+  pub reach : {xs ys : List Lexeme} {ls : List Level} → Wants true xs ys ls → IsMore ys → P (want (root [])) xs → Reached ys ls
+  reach at_first m h = record { frames = root []; levels = refl; way = straight h }
+  reach (behind_clause {ys = ys} {zs = zs} {m = m} {p = p} {t = t} w d l) i h =
+      let r = reach w (begun_more ys (begins d)) h in
+      let f = at_bottom r.frames r.levels in
+      let k = go_in ys (begins d) (subst (λ fs. Way fs ys) f.1 r.way) in
+      record {
+        frames = root (written m t ∷ f.0);
+        levels = refl;
+        way = straight (C.carry_past P forward alike (have p t (root f.0)) (want (root (written m t ∷ f.0))) (end m) zs i refl (C.carry P forward alike d (root f.0) refl l (by_end refl refl) k));
+      }
+  reach (behind_paren {ys = ys} {k = k} w) i h =
+      let r = reach w tt h in
+      record {
+        frames = parens ▹ r.frames;
+        levels = ap (λ ls. enclosed ∷ ls) r.levels;
+        way = straight (C.carry_past P forward alike (want r.frames) (want (parens ▹ r.frames)) (paren k) ys i refl (go_in (paren k ∷ ys) refl r.way));
+      }
+  reach (behind_brace {ys = ys} w) i h =
+      let r = reach w tt h in
+      record {
+        frames = braces ▹ r.frames;
+        levels = ap (λ ls. enclosed ∷ ls) r.levels;
+        way = at_brace (C.carry_past P forward alike (want r.frames) (fresh false r.frames) brace ys i refl (go_in (brace ∷ ys) refl r.way));
+      }
+  reach (behind_bracket {ys = ys} w) i h =
+      let r = reach w tt h in
+      record {
+        frames = elements no_trees ▹ r.frames;
+        levels = ap (λ ls. in_list ∷ ls) r.levels;
+        way = at_bracket (C.carry_past P forward alike (want r.frames) (fresh true r.frames) bracket ys i refl (go_in (bracket ∷ ys) refl r.way));
+      }
+  reach (behind_functor {ys = ys} {zs = zs} {m = m} {f = f} w d) i h =
+      let r = reach w (begun_more ys (word_begins d)) h in
+      record {
+        frames = arguments f no_trees ▹ r.frames;
+        levels = ap (λ ls. in_argument 1 ∷ ls) r.levels;
+        way = straight (C.carry_past P forward alike (word m f r.frames) (want (arguments f no_trees ▹ r.frames)) (paren true) zs i refl (C.carry_word P forward alike d r.frames (go_in ys (word_begins d) r.way)));
+      }
+  reach (behind_argument {ys = ys} {zs = zs} {ls = ls} {n = n} {p = p} {t = t} w d l) i h =
+      let r = reach w (begun_more ys (begins d)) h in
+      let a = in_arguments r.frames n ls r.levels in
+      let k = go_in ys (begins d) (subst (λ fs. Way fs ys) a.frames r.way) in
+      record {
+        frames = arguments a.functor (tree t a.trees) ▹ a.below;
+        levels = ap (λ n. in_argument (1 + n) ∷ opened a.below) a.count ∙ ap (λ ls. in_argument (1 + n) ∷ ls) a.levels;
+        way = straight (C.carry_past P forward alike (have p t (arguments a.functor a.trees ▹ a.below)) (want (arguments a.functor (tree t a.trees) ▹ a.below)) comma zs i refl
+            (C.carry P forward alike d (arguments a.functor a.trees ▹ a.below) refl l (by_end refl refl) k));
+      }
+  reach (behind_element {ys = ys} {zs = zs} {ls = ls} {p = p} {t = t} w d l) i h =
+      let r = reach w (begun_more ys (begins d)) h in
+      let a = in_elements r.frames ls r.levels in
+      let k = go_in ys (begins d) (subst (λ fs. Way fs ys) a.frames r.way) in
+      record {
+        frames = elements (tree t a.trees) ▹ a.below;
+        levels = ap (λ ls. in_list ∷ ls) a.levels;
+        way = straight (C.carry_past P forward alike (have p t (elements a.trees ▹ a.below)) (want (elements (tree t a.trees) ▹ a.below)) comma zs i refl
+            (C.carry P forward alike d (elements a.trees ▹ a.below) refl l (by_end refl refl) k));
+      }
+  reach (behind_bar {ys = ys} {zs = zs} {ls = ls} {p = p} {t = t} w d l) i h =
+      let r = reach w (begun_more ys (begins d)) h in
+      let a = in_elements r.frames ls r.levels in
+      let k = go_in ys (begins d) (subst (λ fs. Way fs ys) a.frames r.way) in
+      record {
+        frames = rest (tree t a.trees) ▹ a.below;
+        levels = ap (λ ls. in_tail ∷ ls) a.levels;
+        way = straight (C.carry_past P forward alike (have p t (elements a.trees ▹ a.below)) (want (rest (tree t a.trees) ▹ a.below)) bar zs i refl
+            (C.carry P forward alike d (elements a.trees ▹ a.below) refl l (by_end refl refl) k));
+      }
+  reach (behind_prefix {y = y} {ys = ys} {zs = zs} {ls = ls} {m = m} {f = f} {o = o} w d e n s l) i h =
+      let r = reach w (begun_more ys (word_begins d)) h in
+      let q : IsTrue (fits true o.priority (limit r.frames)) = subst (λ q. IsTrue (fits true o.priority q)) (sym (ap greatest_inside r.levels) ∙ greatest_opened r.frames) l in
+      record {
+        frames = before f o ▹ r.frames;
+        levels = ap (λ ls. right_of o.right ∷ ls) r.levels;
+        way = straight (C.carry_prefix P forward alike m f o ys (y ∷ zs) r.frames d e n s q (go_in ys (word_begins d) r.way));
+      }
+  reach (behind_infix {x = x} {ys = ys} {zs = zs} {ls = ls} {o = o} {p = p} {t = t} w d e l g) i h =
+      let r = reach w (begun_more ys (begins d)) h in
+      let ec : commas r.frames ≡ commas_inside ls = sym (commas_opened r.frames) ∙ ap commas_inside r.levels in
+      let q : IsTrue (fits true o.priority (limit r.frames)) = subst (λ q. IsTrue (fits true o.priority q)) (sym (ap greatest_inside r.levels) ∙ greatest_opened r.frames) g in
+      let law = infix_lawful (commas_inside ls) x o e in
+      let l' : IsTrue (fits true p (limit r.frames)) = fit_again p (limit r.frames) (let a = fit p o.left l in let b = left_within o law in let c = fit o.priority (limit r.frames) q in omega arith) in
+      record {
+        frames = between o t ▹ r.frames;
+        levels = ap (λ ls. right_of o.right ∷ ls) r.levels;
+        way = straight (C.carry_past P forward alike (have p t r.frames) (want (between o t ▹ r.frames)) x zs i (ap (λ m. had_as true m x p t r.frames) (ap (λ c. infix_at c x) ec ∙ e) ∙ place o p t r.frames l q)
+            (C.carry P forward alike d r.frames ec l' (by_infix e (fit p o.left l)) (go_in ys (begins d) r.way)));
+      }

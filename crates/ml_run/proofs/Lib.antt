@@ -13,6 +13,7 @@ mod SameTerms
 mod Meeting
 mod Members
 mod Rising
+mod Kept
 mod Sorting
 mod Calling
 mod Finding

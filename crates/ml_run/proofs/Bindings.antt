@@ -1,12 +1,12 @@
 -- The bindings of an answer, one after another.
-use Rattle.std.proofs.Common.{◌≡◌, ℕ, ◌+◌, ◌<◌, Bool, true, false, ◌&&◌, not, List, [], ◌∷◌, ◌++◌, length, map, take, get_or, codes, Some, refl, sym, ap, ◌∙◌, subst, append_assoc, append-nil, cond, if◌then◌else◌}
+use Rattle.std.proofs.Common.{◌≡◌, ℕ, ◌+◌, ◌<◌, Bool, true, false, ◌&&◌, not, List, [], ◌∷◌, ◌++◌, length, map, take, get_or, codes, Some, refl, sym, ap, ◌∙◌, append_assoc, append-nil, cond, if◌then◌else◌}
 use Rattle.std.specs.List.{filter}
 use Rattle.std.specs.Prelude.{Option, unwrap_or}
 use Rattle.std.proofs.lemmas.List.{take_more}
 use Rattle.ml_term.specs.Tree.{Tree, variable}
 use Rattle.ml_search.specs.Session.{is_shown}
 use Rattle.ml_run.specs.Matching.{Values, value_at}
-use Rattle.ml_run.specs.Plain.{plain_text, told, named_text, shown_text, binding_text, joined, is_empty, shown_texts}
+use Rattle.ml_run.specs.Plain.{plain_text, named_text, shown_text, binding_text, joined, is_empty, shown_texts}
 
 texts_behind : (vs : Values) (es : List (List ℕ × ℕ)) (e : List ℕ × ℕ) → shown_texts vs (es ++ e ∷ []) ≡ shown_texts vs es ++ cond (is_shown e) (binding_text vs e ∷ []) []
 texts_behind vs [] e = one (is_shown e)

@@ -1,5 +1,5 @@
 -- What is printed of a history of one session with one goal, by what the goal finds.
-use Rattle.std.proofs.Common.{◌≡◌, ℕ, ◌+◌, ◌*◌, ◌<◌, ◌≤◌, suc, Bool, true, false, nat_lt, List, [], ◌∷◌, ◌++◌, length, map, codes, Some, None, refl, sym, ap, ◌∙◌, append_assoc, append-nil, cond, arith}
+use Rattle.std.proofs.Common.{◌≡◌, ℕ, ◌+◌, ◌*◌, ◌≤◌, suc, false, nat_lt, List, [], ◌∷◌, ◌++◌, length, map, codes, Some, None, refl, sym, ap, ◌∙◌, append_assoc, append-nil, cond, arith}
 use Rattle.std.specs.List.{flat_map, list_any}
 use Rattle.std.proofs.lemmas.Grind.{flat_map-append}
 use Rattle.std.proofs.lemmas.List.Folds.{flat_map-map}
@@ -10,7 +10,7 @@ use Rattle.ml_search.specs.Program.{Program, Goal, Script, commit}
 use Rattle.ml_search.specs.Db.{Db}
 use Rattle.ml_search.specs.Errors.{is_too_large, resource_error}
 use Rattle.ml_search.specs.Search.{Outcome}
-use Rattle.ml_search.specs.Session.{Session, session, asked, answer_line, Written, written, goal_line, count_line, error_line, with_line, with_lines, uncommitted, committed, raised_in}
+use Rattle.ml_search.specs.Session.{Session, asked, answer_line, Written, written, goal_line, count_line, error_line, with_line, with_lines, uncommitted, committed, raised_in}
 use Rattle.ml_search.specs.History.{history}
 use Rattle.ml_search.specs.Printed.{printed, session_line, ending_text}
 use Rattle.ml_search.specs.declared.ending.Ending.TheVariants.{Committed, Failed}

@@ -1,15 +1,15 @@
 -- What a call of a declared relation is: no control construct and no built-in, but a call of the declared predicate.
-use Rattle.std.proofs.Common.{◌≡◌, ℕ, ◌≤◌, Bool, true, false, ◌||◌, ◌&&◌, List, [], ◌∷◌, length, codes, Option, Some, None, refl, sym, ap, ◌∙◌, arith}
+use Rattle.std.proofs.Common.{◌≡◌, ℕ, ◌≤◌, Bool, true, false, ◌||◌, ◌&&◌, List, [], ◌∷◌, length, codes, Option, Some, None, refl, sym, ap, arith}
 use Rattle.std.specs.Str.{bytes_eq}
-use Rattle.std.specs.Prelude.{is_some, ◌==◌, unwrap_or}
+use Rattle.std.specs.Prelude.{is_some, ◌==◌}
 use Rattle.std.proofs.lemmas.Slice.Eq.{bytes_eq-Decides}
-use Rattle.ml_term.specs.Tree.{Tree, Trees, variable, compound, no_trees, tree, trees_of, list_of, arity}
+use Rattle.ml_term.specs.Tree.{Trees, compound, no_trees, tree, trees_of, list_of, arity}
 use Rattle.ml_search.specs.Program.{Program}
 use Rattle.ml_search.specs.Names.{named}
 use Rattle.ml_search.specs.Bodies.{taken, other, goal_term}
-use Rattle.ml_search.specs.Builtins.{Did, with, or_else, builtin, is_plain, type_tests, built_2, built_3, order_tests, value_tests}
+use Rattle.ml_search.specs.Builtins.{with, or_else, builtin, is_plain, type_tests, built_2, built_3, order_tests, value_tests}
 use Rattle.ml_search.specs.Known.{is_reserved, has_name, control_names, store_names, known, store_known, declared_known}
-use Rattle.ml_search.specs.Table.{Known, declared, as_tuple}
+use Rattle.ml_search.specs.Table.{declared, as_tuple}
 
 neither : (a b : Bool) → (a || b) ≡ false → (a ≡ false) × (b ≡ false)
 neither true b e = cc

@@ -1,5 +1,5 @@
 -- Facts that stand one after the other.
-use Rattle.std.proofs.Common.{◌≡◌, ℕ, ◌+◌, ◌*◌, ◌<◌, ◌≤◌, Bool, true, false, ◌&&◌, not, IsTrue, length, length-append, arith, List, [], ◌∷◌, ◌++◌, map, refl, sym, ap, subst, ◌∙◌, append_assoc, append-nil}
+use Rattle.std.proofs.Common.{◌≡◌, ℕ, ◌+◌, ◌*◌, ◌<◌, ◌≤◌, true, false, ◌&&◌, not, IsTrue, length, length-append, arith, List, [], ◌∷◌, ◌++◌, map, refl, sym, ap, subst, ◌∙◌, append_assoc, append-nil}
 use Rattle.std.specs.List.{flat_map, list_all, All}
 use Rattle.std.proofs.lemmas.Grind.{flat_map-append}
 use Rattle.std.proofs.lemmas.List.{length-map}
@@ -16,7 +16,7 @@ use Rattle.ml_run.specs.Plain.{is_plain, are_plain, is_plain_tuple}
 use Rattle.ml_run.specs.form.Tokens.{Lexeme, sign}
 use Rattle.ml_run.specs.form.Arguments.{Argument, named, counted, free, is_among, operators, is_within}
 use Rattle.ml_run.specs.form.Terms.{Numbering, unnumbered, term_of, behind, terms_from, call_term}
-use Rattle.ml_run.specs.form.Grammar.{call, fact, arguments, fact_limit, AreArguments, AreFactTokens, AreFacts}
+use Rattle.ml_run.specs.form.Grammar.{call, fact, arguments, fact_limit, AreArguments, AreFacts}
 use Rattle.ml_run.proofs.Tokens.{same_fact}
 
 -- these facts were read, and these tokens stand behind them

@@ -1,18 +1,18 @@
 -- What a goal finds that is a call of a declared relation.
-use Rattle.std.proofs.Common.{◌≡◌, ℕ, suc, ◌+◌, ◌-◌, ◌≤◌, Bool, true, false, nat_lt, List, [], ◌∷◌, ◌++◌, length, map, Option, Some, None, inr, refl, sym, ap, ◌∙◌, append-nil, subst, arith}
-use Rattle.std.specs.List.{flat_map, filter_map, cons_option}
+use Rattle.std.proofs.Common.{◌≡◌, ℕ, suc, ◌+◌, ◌-◌, ◌≤◌, true, false, nat_lt, List, [], ◌∷◌, ◌++◌, length, map, Option, Some, None, inr, refl, sym, ap, ◌∙◌, append-nil, subst, arith}
+use Rattle.std.specs.List.{flat_map, cons_option}
 use Rattle.std.proofs.lemmas.List.{length-map}
 use Rattle.std.proofs.lemmas.Bool.Decides.{nat_tests}
-use Rattle.ml_term.specs.Tree.{Tree, Trees, variable, compound, list_of, arity, nodes, width, is_ground}
+use Rattle.ml_term.specs.Tree.{Tree, Trees, variable, compound, arity, nodes, width, is_ground}
 use Rattle.ml_term.specs.Runs.{now}
 use Rattle.ml_term.specs.Unify.{Map, applied, unifier}
 use Rattle.ml_term.proofs.Ground.{ground_stays}
 use Rattle.ml_search.specs.Program.{Program, Goal, true_body, clause_term}
-use Rattle.ml_search.specs.Bodies.{taken, goal_term}
+use Rattle.ml_search.specs.Bodies.{taken}
 use Rattle.ml_search.specs.Errors.{is_too_large}
 use Rattle.ml_search.specs.Db.{Item, items, terms as terms_of}
 use Rattle.ml_search.specs.Changes.{Lists, Named}
-use Rattle.ml_search.specs.Table.{declared, done, body, Branch, by_item, as_tuple, with_map, by, fresh}
+use Rattle.ml_search.specs.Table.{declared, done, body, Branch, by_item, as_tuple, by, fresh}
 use Rattle.ml_search.specs.Search.{turn}
 use Rattle.ml_search.specs.Known.{is_reserved, declared_known}
 use Rattle.ml_search.specs.Session.{asked}

@@ -1,11 +1,10 @@
 -- The block of the session over what two files hold is its printed history.
-use Rattle.std.proofs.Common.{◌≡◌, ◌∷◌, [], refl, sym, ap, ◌∙◌, subst, ◌+◌, ◌*◌, ◌≤◌, ◌&&◌, not, Bool, true, false, IsTrue, ℕ, List, Option, Some, length, map, inl, inr, arith}
-use Rattle.std.specs.List.{list_all}
+use Rattle.std.proofs.Common.{◌≡◌, ◌∷◌, [], refl, sym, ap, ◌∙◌, subst, ◌≤◌, not, Bool, true, false, ℕ, List, Option, Some, length, arith}
 use Rattle.std.proofs.Math.Seq.{take-length}
 use Rattle.std.proofs.lemmas.List.{length-map}
-use Rattle.ml_term.specs.Tree.{Tree, compound, trees_of, arity, nodes}
+use Rattle.ml_term.specs.Tree.{Tree, trees_of, arity, nodes}
 use Rattle.ml_term.specs.declared.declaration.Decl.{Decl}
-use Rattle.ml_term.proofs.Columns.{and_first, and_second}
+use Rattle.ml_term.proofs.Columns.{and_second}
 use Rattle.ml_search.specs.Program.{Goal}
 use Rattle.ml_search.specs.Known.{is_reserved, declared_known}
 use Rattle.ml_search.specs.Table.{declared, as_tuple}
@@ -16,9 +15,9 @@ use Rattle.ml_outside.specs.Held.{Files}
 use Rattle.ml_outside.specs.Written.{Appended, AppendedFront}
 use Rattle.ml_run.specs.Plain.{is_flat_call}
 use Rattle.ml_run.specs.form.Tokens.{Lexeme}
-use Rattle.ml_run.specs.form.Arguments.{Argument, is_among, operators, is_within}
-use Rattle.ml_run.specs.form.Terms.{unnumbered, terms_from, call_term, goal_of}
-use Rattle.ml_run.specs.form.Grammar.{is_arity, AreRules, IsGoal}
+use Rattle.ml_run.specs.form.Arguments.{is_among, operators}
+use Rattle.ml_run.specs.form.Terms.{unnumbered, terms_from, call_term}
+use Rattle.ml_run.specs.form.Grammar.{AreRules, IsGoal}
 use Rattle.ml_run.specs.Texts.{HoldsRules, HoldsScript}
 use Rattle.ml_run.specs.Inputs.{program_of, lists_of, script_of}
 use Rattle.ml_run.specs.Answering.{answers, block_text}

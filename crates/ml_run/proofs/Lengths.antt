@@ -1,8 +1,8 @@
 -- How long the lines of answers are.
-use Rattle.std.proofs.Common.{◌≡◌, ℕ, ◌+◌, ◌*◌, ◌≤◌, Bool, true, false, ◌⊎◌, inl, inr, List, [], ◌∷◌, ◌++◌, length, length-append, map, codes, Option, Some, None, refl, sym, ap, ◌∙◌, subst, cond, arith}
+use Rattle.std.proofs.Common.{◌≡◌, ℕ, ◌+◌, ◌*◌, ◌≤◌, Bool, true, false, inl, inr, List, [], ◌∷◌, ◌++◌, length, length-append, map, codes, Option, Some, None, refl, sym, ap, subst, cond, arith}
 use Rattle.std.proofs.lemmas.List.{length-map}
-use Rattle.std.specs.List.{filter, filter_map, cons_option, list_any}
-use Rattle.ml_term.specs.Tree.{Tree, Trees, variable, integer, atom, compound, variables, variables_of, is_ground, nodes}
+use Rattle.std.specs.List.{filter, cons_option, list_any}
+use Rattle.ml_term.specs.Tree.{Tree, variable, integer, atom, compound, variables}
 use Rattle.ml_term.specs.Unify.{Map, value_of, applied, unifier}
 use Rattle.ml_term.specs.Text.{text_of}
 use Rattle.ml_term.specs.Keys.{arguments}
@@ -10,8 +10,8 @@ use Rattle.ml_term.proofs.Distinct.{In}
 use Rattle.ml_term.proofs.Ground.{gives_the_tuple}
 use Rattle.ml_search.specs.Program.{Goal}
 use Rattle.ml_search.specs.Errors.{is_too_large}
-use Rattle.ml_search.specs.Session.{is_shown, shown, bindings_text, answer_line}
-use Rattle.ml_run.specs.Plain.{is_plain, is_flat_call, plain_text}
+use Rattle.ml_search.specs.Session.{is_shown, shown, bindings_text}
+use Rattle.ml_run.specs.Plain.{is_plain, is_flat_call}
 use Rattle.ml_run.specs.Answering.{answer, answers, unifiers}
 use Rattle.ml_run.proofs.Members.{Has}
 use Rattle.ml_run.proofs.PlainAnswers.{plain_is_text}

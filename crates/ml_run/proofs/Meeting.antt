@@ -1,12 +1,12 @@
 -- A term meets another one exactly where some substitution with the values so far makes it that term.
-use Rattle.std.proofs.Common.{◌≡◌, ℕ, zero, suc, ◌+◌, ◌<◌, nat_lt, Bool, true, false, ◌&&◌, ◌||◌, ℤ, ◌⊎◌, List, [], ◌∷◌, ◌++◌, length, Option, Some, None, inl, inr, refl, sym, ap, ◌∙◌, subst, arith, if◌then◌else◌}
+use Rattle.std.proofs.Common.{◌≡◌, ℕ, zero, suc, ◌<◌, Bool, true, false, ℤ, ◌⊎◌, List, [], ◌∷◌, length, Option, Some, None, inl, inr, refl, sym, ap, ◌∙◌, subst, arith, if◌then◌else◌}
 use Rattle.std.specs.Prelude.{option_and_then}
 use Rattle.std.specs.Str.{bytes_eq}
 use Rattle.std.specs.Ordering.{int_eq}
 use Rattle.std.proofs.lemmas.Slice.Eq.{bytes_eq-Decides}
 use Rattle.std.proofs.lemmas.Bool.Decides.{Decides-int_eq, nat_tests, eqb_tells}
 use Rattle.ml_term.specs.Tree.{Tree, Trees, variable, integer, atom, compound, no_trees, tree, variables, variables_of, substituted, substituted_in, is_ground}
-use Rattle.ml_term.specs.Unify.{Map, value_of, unifier}
+use Rattle.ml_term.specs.Unify.{value_of, unifier}
 use Rattle.ml_term.proofs.Distinct.{In}
 use Rattle.ml_term.proofs.UnificationEnds.{in_either}
 use Rattle.ml_term.proofs.Columns.{and_first, and_second}
@@ -14,7 +14,7 @@ use Rattle.ml_term.proofs.OneUnifier.{some_or_none, unifier_found}
 use Rattle.ml_term.proofs.Ground.{ground_stays, gives_the_tuple, gives_one}
 use Rattle.ml_search.specs.Db.{is_same}
 use Rattle.ml_run.specs.Below.{is_below, are_below}
-use Rattle.ml_run.specs.Matching.{Values, value_at, with_value, taken_by, taken, matched, all_matched, AreUnset, Meets}
+use Rattle.ml_run.specs.Matching.{Values, value_at, with_value, taken_by, matched, all_matched, AreUnset, Meets}
 use Rattle.ml_run.proofs.SameTerms.{same_is_equal, same_as_itself}
 
 -- a substitution gives each variable the value that it has

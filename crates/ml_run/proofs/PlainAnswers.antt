@@ -1,5 +1,5 @@
 -- Answers whose values are plain terms.
-use Rattle.std.proofs.Common.{◌≡◌, ℕ, ◌+◌, ◌<◌, Bool, true, false, ◌&&◌, ◌||◌, List, [], ◌∷◌, ◌++◌, length, map, codes, Option, Some, None, inl, inr, refl, sym, ap, ◌∙◌, subst, cond, if◌then◌else◌, append_assoc, length-append, take, get_or, arith}
+use Rattle.std.proofs.Common.{◌≡◌, ℕ, ◌+◌, ◌<◌, Bool, true, false, List, [], ◌∷◌, ◌++◌, length, map, codes, Option, Some, None, inl, inr, refl, sym, ap, ◌∙◌, subst, cond, if◌then◌else◌, append_assoc, length-append, take, get_or, arith}
 use Rattle.std.specs.Prelude.{unwrap_or}
 use Rattle.std.specs.List.{All, filter, list_all, filter_map, cons_option, flat_map}
 use Rattle.std.proofs.lemmas.Bool.Decides.{eqb_tells}
@@ -9,7 +9,7 @@ use Rattle.std.proofs.lemmas.List.Elements.{All-nil, All-cons}
 use Rattle.ml_term.specs.Seen.{seen}
 use Rattle.ml_term.specs.Tree.{Tree, Trees, variable, integer, atom, compound, no_trees, tree, variables, variables_of, occurs, substituted, substituted_in, is_ground}
 use Rattle.ml_term.specs.Unify.{Map, value_of, applied, unifier}
-use Rattle.ml_term.specs.Text.{text_of, atom_text, is_bare, is_word}
+use Rattle.ml_term.specs.Text.{text_of}
 use Rattle.ml_term.specs.Keys.{arguments}
 use Rattle.ml_term.proofs.Distinct.{In}
 use Rattle.ml_term.proofs.UnificationEnds.{in_either}
@@ -19,9 +19,9 @@ use Rattle.ml_search.specs.Program.{Goal}
 use Rattle.ml_search.specs.Session.{is_shown, shown, bindings_text, answer_line, line}
 use Rattle.ml_run.specs.Matching.{Values, value_at, Meets}
 use Rattle.ml_run.specs.declared.tuple.Tuple.{Tuple}
-use Rattle.ml_run.specs.Answering.{wanted, answer, answers}
+use Rattle.ml_run.specs.Answering.{answer, answers}
 use Rattle.ml_run.specs.KeyOrder.{trees}
-use Rattle.ml_run.specs.Plain.{is_plain, are_plain, is_flat, are_flat, is_flat_call, is_plain_tuple, plain_text, IsPlainSome, told, binding_text, joined, is_empty, shown_texts, bindings, plain_line}
+use Rattle.ml_run.specs.Plain.{is_plain, are_plain, is_flat, are_flat, is_flat_call, is_plain_tuple, plain_text, IsPlainSome, told, binding_text, joined, is_empty, plain_line}
 
 -- what stands for the variables of flat arguments that become plain ones
 mutual

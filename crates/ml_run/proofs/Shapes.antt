@@ -1,5 +1,5 @@
 -- The shapes of facts and goals of the form: facts have no variables and short arguments, and a goal's names are those of its variables.
-use Rattle.std.proofs.Common.{◌≡◌, ℕ, zero, suc, ◌+◌, ◌*◌, ◌/◌, ◌%◌, ◌≤◌, ◌==◌, nat_lt, nat_le, Bool, true, false, ◌&&◌, not, ◌⊎◌, inl, inr, List, [], ◌∷◌, ◌++◌, length, length-append, map, Option, Some, None, refl, sym, ap, ◌∙◌, subst, cond, arith}
+use Rattle.std.proofs.Common.{◌≡◌, ℕ, zero, suc, ◌+◌, ◌/◌, ◌%◌, ◌≤◌, ◌==◌, nat_lt, nat_le, Bool, true, false, ◌&&◌, not, ◌⊎◌, inl, inr, List, [], ◌∷◌, ◌++◌, length, length-append, map, Option, Some, None, refl, sym, ap, subst, cond, arith}
 use Rattle.std.specs.Prelude.{unwrap_or}
 use Rattle.std.specs.List.{All, list_all}
 use Rattle.std.proofs.lemmas.Bool.Decides.{nat_tests, eqb_tells}
@@ -7,14 +7,14 @@ use Rattle.std.proofs.lemmas.List.Elements.{All-head, All-tail}
 use Rattle.ml_term.specs.Names.{is_name, is_name_byte}
 use Rattle.ml_term.specs.Text.{is_word}
 use Rattle.ml_term.specs.Decimal.{digits_of}
-use Rattle.ml_term.specs.Tree.{Tree, Trees, variable, integer, atom, compound, no_trees, tree, trees_of, variables, variables_of, substituted, substituted_in, is_ground, nodes, nodes_of, arity}
+use Rattle.ml_term.specs.Tree.{Tree, Trees, variable, integer, atom, compound, no_trees, tree, trees_of, variables, variables_of, substituted, substituted_in, is_ground, nodes, nodes_of}
 use Rattle.ml_term.specs.Keys.{arguments}
 use Rattle.ml_term.proofs.Columns.{and_first, and_second}
 use Rattle.ml_term.proofs.Distinct.{In, in_head}
 use Rattle.ml_term.proofs.UnificationEnds.{in_either, in_left, in_right}
 use Rattle.ml_run.specs.Plain.{is_plain, is_flat, are_flat, plain_text}
 use Rattle.ml_run.specs.form.Arguments.{Argument, named, counted, free, is_among, operators, is_within}
-use Rattle.ml_run.specs.form.Terms.{Numbering, unnumbered, find_name, is_anonymous, number_of, with_found, with_variable, term_of, behind, terms_from, behind_all, call_term}
+use Rattle.ml_run.specs.form.Terms.{Numbering, unnumbered, find_name, is_anonymous, with_found, term_of, behind, terms_from, behind_all, call_term}
 use Rattle.ml_run.specs.form.Grammar.{AreArguments}
 use Rattle.ml_run.proofs.Members.{Has}
 

@@ -1,7 +1,7 @@
 -- Rules and scripts are told apart by their tokens.
-use Rattle.std.proofs.Common.{◌≡◌, ◌∷◌, [], ◌++◌, ℕ, List, map, true, IsTrue, Bool, Option, refl, sym, ap, ◌∙◌, subst, append_assoc, append-nil, length, ◌≤◌, arith}
+use Rattle.std.proofs.Common.{◌≡◌, ◌∷◌, [], ◌++◌, ℕ, List, map, true, IsTrue, Bool, Option, refl, sym, ap, ◌∙◌, subst, append-nil, length, ◌≤◌, arith}
 use Rattle.std.proofs.Math.Bool.{Bool-set}
-use Rattle.std.specs.List.{flat_map, list_all}
+use Rattle.std.specs.List.{list_all}
 use Rattle.std.specs.Prelude.{IfNone}
 use Rattle.ml_term.specs.Tree.{Tree, trees_of}
 use Rattle.ml_term.specs.Keys.{are_keys, default_keys}
@@ -10,12 +10,12 @@ use Rattle.ml_term.specs.declared.declaration.Pred.{Pred}
 use Rattle.ml_term.specs.declared.declaration.Kind.{Kind}
 use Rattle.ml_term.proofs.Columns.{and_first, and_second}
 use Rattle.ml_search.specs.Program.{Goal}
-use Rattle.ml_run.specs.declared.form.tokens.Mark.TheVariants.{Query, End}
+use Rattle.ml_run.specs.declared.form.tokens.Mark.TheVariants.{Query}
 use Rattle.ml_run.specs.Plain.{is_flat, are_flat, is_flat_call}
 use Rattle.ml_run.specs.form.Tokens.{Lexeme, sign}
-use Rattle.ml_run.specs.form.Arguments.{Argument, named, counted, free, is_within, is_among, operators}
+use Rattle.ml_run.specs.form.Arguments.{Argument, named, counted, free, is_within}
 use Rattle.ml_run.specs.form.Terms.{Numbering, unnumbered, term_of, behind, terms_from, call_term, goal_of}
-use Rattle.ml_run.specs.form.Grammar.{declaration, fact, query, AreArguments, AreFacts, IsDeclared, AreRules, IsGoal}
+use Rattle.ml_run.specs.form.Grammar.{declaration, fact, query, AreArguments, AreFacts, AreRules, IsGoal}
 use Rattle.ml_run.proofs.Facts.{same_facts, plain_term}
 use Rattle.ml_run.proofs.Tokens.{if_none, same_fact}
 

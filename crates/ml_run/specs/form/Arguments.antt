@@ -1,5 +1,5 @@
 -- Arguments as they are spelled: bare names, numbers, and variables by their names.
-use Rattle.std.specs.Prelude.{ℕ, nat_le, Bool, ◌&&◌, not, IsTrue, List, [], ◌∷◌, codes}
+use Rattle.std.specs.Prelude.{ℕ, nat_le, Bool, ◌&&◌, not, List, [], ◌∷◌, codes}
 use Rattle.std.specs.List.{list_any}
 use Rattle.std.specs.Str.{bytes_eq}
 use Rattle.ml_term.specs.Names.{is_name}

@@ -1,4 +1,3 @@
-use Rattle.std.proofs.Common.{◌≡◌, ◌++◌}
 use Rattle.ml_term.specs.Seen.{seen}
 use Rattle.ml_run.specs.Matching.{values_seen}
 use Rattle.ml_run.proofs.Bindings.{one_more}

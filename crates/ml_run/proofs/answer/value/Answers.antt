@@ -1,4 +1,4 @@
-use Rattle.std.proofs.Common.{sym, ap, ◌∙◌, option_map, subst}
+use Rattle.std.proofs.Common.{ap, ◌∙◌, option_map, subst}
 use Rattle.ml_term.specs.Seen.{seen}
 use Rattle.ml_run.specs.Plain.{IsPlainSome}
 use Rattle.ml_run.proofs.Values.{value_there, in_place}

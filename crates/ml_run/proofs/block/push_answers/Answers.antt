@@ -1,4 +1,4 @@
-use Rattle.std.proofs.Common.{◌≡◌, ◌++◌, ◌+◌, take, length, sym, ap, ◌∙◌, arith}
+use Rattle.std.proofs.Common.{◌++◌, take, length, sym, ap, ◌∙◌, arith}
 use Rattle.ml_term.specs.Seen.{seen}
 use Rattle.std.specs.List.{flat_map}
 use Rattle.ml_search.specs.Session.{answer_line}

@@ -1,6 +1,5 @@
-use Rattle.std.proofs.Common.{◌≡◌, ◌<◌, ◌^◌, ◌++◌, [], ◌∷◌, OnOk, codes, ap, ◌∙◌, append_assoc, rules}
+use Rattle.std.proofs.Common.{◌≡◌, ◌<◌, ◌^◌, ◌++◌, [], ◌∷◌, OnOk, codes, ◌∙◌, rules}
 use Rattle.std.proofs.lemmas.Result.{on_ok_weaker}
-use Rattle.ml_term.specs.Decimal.{decimal_text}
 use Rattle.ml_term.proofs.Decimals.{decimal_is_text}
 use Rattle.ml_run.proofs.PlainAnswers.{regrouped}
 use Rattle.ml_run.proofs.block.push_count.Goals as goal

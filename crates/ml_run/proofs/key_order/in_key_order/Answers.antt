@@ -1,4 +1,4 @@
-use Rattle.std.proofs.Common.{◌≡◌, rules}
+use Rattle.std.proofs.Common.{rules}
 use Rattle.std.proofs.lemmas.Fn.{always_returns_same, dedup_same}
 use Rattle.ml_run.proofs.Sorting.{goes_before, goes_in_order, is_repeat, left_is}
 use Rattle.ml_run.proofs.key_order.in_key_order.Goals as goal

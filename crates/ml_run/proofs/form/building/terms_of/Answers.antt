@@ -1,4 +1,4 @@
-use Rattle.std.proofs.Common.{◌≡◌, ◌&&◌, true, IsTrue, ap, subst}
+use Rattle.std.proofs.Common.{◌&&◌, true, IsTrue, subst}
 use Rattle.std.specs.List.{list_all}
 use Rattle.ml_term.proofs.Columns.{and_first, and_second}
 use Rattle.ml_run.specs.form.Arguments.{argument_seen, call_seen, is_within}

@@ -1,4 +1,4 @@
-use Rattle.std.proofs.Common.{◌≡◌, ◌∷◌, map, ap, ◌∙◌}
+use Rattle.std.proofs.Common.{◌∷◌, map, ap, ◌∙◌}
 use Rattle.ml_run.specs.form.Tokens.{lexeme}
 use Rattle.ml_run.specs.form.Arguments.{argument_token, argument_seen}
 use Rattle.ml_run.proofs.Tokens.{no_first, no_second, behind_two}

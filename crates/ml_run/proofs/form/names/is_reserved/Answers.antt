@@ -1,4 +1,4 @@
-use Rattle.std.proofs.Common.{◌≡◌, sym, ◌∙◌, ap}
+use Rattle.std.proofs.Common.{sym, ◌∙◌, ap}
 use Rattle.ml_search.specs.Known.{is_reserved}
 use Rattle.ml_run.proofs.Reserved.{reserved_1_is, reserved_2_is}
 use Rattle.ml_run.proofs.Tokens.{other_arity}

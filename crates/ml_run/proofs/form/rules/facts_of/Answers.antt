@@ -1,10 +1,9 @@
-use Rattle.std.proofs.Common.{◌≡◌, ◌≢◌, ◌++◌, ◌∷◌, [], ◌<◌, ◌≤◌, ◌+◌, ◌*◌, IsTrue, map, length, drop, length-drop, arith, ap, sym, subst, ◌∙◌}
+use Rattle.std.proofs.Common.{◌≡◌, ◌++◌, ◌∷◌, [], ◌<◌, ◌+◌, ◌*◌, map, length, drop, length-drop, arith, ap, sym, subst, ◌∙◌}
 use Rattle.std.proofs.lemmas.List.{length-map, drop-drop}
 use Rattle.ml_term.specs.Seen.{seen}
 use Rattle.ml_run.specs.KeyOrder.{trees}
 use Rattle.ml_run.specs.form.Tokens.{lexeme}
 use Rattle.ml_run.specs.form.Arguments.{call_seen}
-use Rattle.ml_run.specs.form.Terms.{call_term}
 use Rattle.ml_run.specs.form.Grammar.{fact}
 use Rattle.ml_run.proofs.Facts.{Behind, not_facts, too_many, behind_more, few_facts, facts_sized, facts_plain, length-fact, trees-push}
 use Rattle.ml_run.proofs.Tokens.{long_enough, some_arity}

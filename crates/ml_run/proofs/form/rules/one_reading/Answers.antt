@@ -1,4 +1,4 @@
-use Rattle.std.proofs.Common.{◌≡◌, sym, subst}
+use Rattle.std.proofs.Common.{subst}
 use Rattle.ml_run.specs.form.Grammar.{AreRules}
 use Rattle.ml_run.proofs.Lexed.{same_tokens}
 use Rattle.ml_run.proofs.Spelling.{same_rules}

@@ -1,4 +1,4 @@
-use Rattle.std.proofs.Common.{◌≡◌, ap, ◌∙◌}
+use Rattle.std.proofs.Common.{ap}
 use Rattle.ml_term.specs.Seen.{seen}
 use Rattle.ml_run.specs.form.Arguments.{call_seen}
 use Rattle.ml_run.proofs.Spelling.{goal_is_flat}

@@ -87,10 +87,9 @@ bindings_of m (e ∷ es) h = (h e (inl refl), bindings_of m es (λ d i. h d (inr
 line_short : (g : Goal) (u : Tree) (m : Map) → is_flat_call g.term ≡ true → AreNamed g → length g.names ≤ 2 → IsFactTerm u → unifier g.term u ≡ Some m → IsShort 1040 g (answer g m)
 line_short g u m f named few p e =
     let bindings : AreBindings m (shown g) = bindings_of m (shown g) (λ d i.
-        let here = named d (has_filtered is_shown d g.names i) in
-        (here.1, value_short g.term u m f p e d.1 here.0)) in
-    let text = bindings_text (shown g) (answer g m) [] in
-    (
+    let here = named d (has_filtered is_shown d g.names i) in
+    (here.1, value_short g.term u m f p e d.1 here.0)) in
+    let text = bindings_text (shown g) (answer g m) [] in (
       none_large m (shown g) bindings,
       omega (arith, texts_length m (shown g) [] bindings, fewer_filtered is_shown g.names, few, length-append (codes "  " ++ text) (10 ∷ []), length-append (codes "  ") text),
     )

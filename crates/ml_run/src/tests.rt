@@ -220,7 +220,10 @@ fn a_name_of_255_bytes_is_read_and_one_of_256_is_not(rt: HostRuntime) -> Result<
     assert_eq!(rt; serial(alloc, &WORDS, &mut shelf, &mut out), Status::Done);
     assert_eq!(rt; out.bytes().len(), 301);
     shelf.put(alloc, "rules.pl", &rules_of_name(alloc, 256)?)?;
-    assert_eq!(rt; serial(alloc, &WORDS, &mut shelf, &mut out), Status::NotBuilt(1));
+    assert_eq!(rt;
+        serial(alloc, &WORDS, &mut shelf, &mut out),
+        Status::NotBuilt(1)
+    );
     assert_eq!(rt; out.bytes().len(), 301);
     Ok(())
 }

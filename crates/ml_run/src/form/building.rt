@@ -67,11 +67,7 @@ fn call_of(
 }
 
 // The terms of the arguments of a call.
-fn terms_of(
-    alloc: Global,
-    call: &Call,
-    numbering: &mut Numbering,
-) -> Result<Vec<Term>, AllocError>
+fn terms_of(alloc: Global, call: &Call, numbering: &mut Numbering) -> Result<Vec<Term>, AllocError>
     requires within { IsTrue (list_all (is_within true) (call_seen call.now)) }
     requires new { numbering_seen numbering.old ≡ unnumbered }
     ensures terms { IfOk result (λ ts. all_seen ts.items ≡ terms_from unnumbered (call_seen call.now)) }
@@ -94,11 +90,7 @@ fn terms_of(
 }
 
 // The term of an argument.
-fn term_of(
-    alloc: Global,
-    argument: Argument,
-    numbering: &mut Numbering,
-) -> Result<Term, AllocError>
+fn term_of(alloc: Global, argument: Argument, numbering: &mut Numbering) -> Result<Term, AllocError>
     requires within { IsTrue (is_within true (argument_seen argument)) }
     requires room { numbering.old.variables < 2 ^ 32 - 1 }
     ensures term { IfOk result (λ t. seen t ≡ term_of (numbering_seen numbering.old) (argument_seen argument.entry)) }
@@ -115,11 +107,7 @@ fn term_of(
 }
 
 // The number of a variable of this name, which is a new one where it is none that was met.
-fn number_of(
-    alloc: Global,
-    name: &[u8],
-    numbering: &mut Numbering,
-) -> Result<u32, AllocError>
+fn number_of(alloc: Global, name: &[u8], numbering: &mut Numbering) -> Result<u32, AllocError>
     requires name { IsTrue (is_name name.now) }
     requires room { numbering.old.variables < 2 ^ 32 - 1 }
     ensures number { IfOk result (λ n. n ≡ number_of (numbering_seen numbering.old) name.now) }

@@ -52,7 +52,11 @@ fn call_at<'t, 'a>(
 }
 
 // The argument of a call of this name with one argument.
-fn one_at<'t, 'a>(name: &[u8], varies: bool, tokens: &'t [Token<'a>]) -> Option<(Argument<'a>, &'t [Token<'a>])>
+fn one_at<'t, 'a>(
+    name: &[u8],
+    varies: bool,
+    tokens: &'t [Token<'a>],
+) -> Option<(Argument<'a>, &'t [Token<'a>])>
     ensures some { IfSome result (λ found. map lexeme tokens.now ≡ call name.now (argument_seen found.0 ∷ []) ++ map lexeme found.1.now) }
     ensures within { IfSome result (λ found. IsTrue (is_within varies (argument_seen found.0))) }
     ensures none { IfNone result ((a : SpelledArgument) (ts : List Lexeme) → IsTrue (is_within varies a) → map lexeme tokens.now ≡ call name.now (a ∷ []) ++ ts → ⊥) }
@@ -85,7 +89,10 @@ fn two_at<'t, 'a>(
 }
 
 // An argument that is first, and what stands behind it.
-fn argument_at<'t, 'a>(varies: bool, tokens: &'t [Token<'a>]) -> Option<(Argument<'a>, &'t [Token<'a>])>
+fn argument_at<'t, 'a>(
+    varies: bool,
+    tokens: &'t [Token<'a>],
+) -> Option<(Argument<'a>, &'t [Token<'a>])>
     ensures some { IfSome result (λ found. map lexeme tokens.now ≡ argument_token (argument_seen found.0) ∷ map lexeme found.1.now) }
     ensures within { IfSome result (λ found. IsTrue (is_within varies (argument_seen found.0))) }
     ensures none { IfNone result ((a : SpelledArgument) (ts : List Lexeme) → IsTrue (is_within varies a) → map lexeme tokens.now ≡ argument_token a ∷ ts → ⊥) }

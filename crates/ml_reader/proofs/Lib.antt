@@ -36,3 +36,12 @@ pub mod ScriptRuns
 pub mod ScriptSizes
 pub mod ScriptAnswers
 pub mod ScriptReadings
+pub mod Shapes
+pub mod Spelled
+pub mod FormLaws
+pub mod OneAfterAnother
+pub mod Sorting
+pub mod PartsKept
+pub mod OneReading
+pub mod Counting
+pub mod Settled

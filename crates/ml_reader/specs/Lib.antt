@@ -21,3 +21,11 @@ pub mod ScriptTexts
 pub mod ScriptItems
 pub mod ScriptSeen
 pub mod ScriptRows
+pub mod Forms
+pub mod Declarations
+pub mod Rules
+pub mod FormsSeen
+pub mod DeclarationSteps
+pub mod PartsSeen
+pub mod ItemsSeen
+pub mod RulesSteps

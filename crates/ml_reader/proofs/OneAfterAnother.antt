@@ -51,13 +51,13 @@ declares_nothing_more before c r is = filter_map-append (λ c. directive_of (for
 pub declare_more : (before : List Written) (c : Written) (ds ds' : List Decl) → Declare before ds → Becomes c ds ds' → Declare (before ++ c ∷ []) ds'
 declare_more before c ds ds' h (no_directive none) = record {
   each = subst (λ ts. AllZip Declares ts ds) (sym (declares_nothing_more before c None none ∙ append-nil (directives before))) h.each;
-  once = h.once
+  once = h.once;
 }
 declare_more before c ds ds' h (one_more t d is declares other) = record {
   each =
-  subst (λ ts. AllZip Declares ts (ds ++ d ∷ [])) (sym (declares_nothing_more before c (Some t) (ap directive_of is)))
-  (zip_append Declares (directives before) ds t d h.each declares);
-  once = once_more ds d h.once other
+      subst (λ ts. AllZip Declares ts (ds ++ d ∷ [])) (sym (declares_nothing_more before c (Some t) (ap directive_of is)))
+      (zip_append Declares (directives before) ds t d h.each declares);
+  once = once_more ds d h.once other;
 }
 
 -- at most one declaration more
@@ -87,7 +87,7 @@ one_further xs i x low is = take_more xs i x low ∙ ap (λ y. take i xs ++ y �
 pub comes_next : (reads : List Read) (i : ℕ) (r : Read) → i < length reads → r ≡ get_or reads i r → ComesNext (map read_seen reads) (map read_seen (take i reads)) (read_seen r)
 comes_next reads i r low is = record {
   after = map read_seen (drop (i + 1) reads);
-  whole = ap (map read_seen) (split_at reads i r low is) ∙ map-append read_seen (take i reads) (r ∷ drop (i + 1) reads)
+  whole = ap (map read_seen) (split_at reads i r low is) ∙ map-append read_seen (take i reads) (r ∷ drop (i + 1) reads);
 }
 
 pub one_read_further : (reads : List Read) (i : ℕ) (r : Read) → i < length reads → r ≡ get_or reads i r → map read_seen (take (i + 1) reads) ≡ map read_seen (take i reads) ++ read_seen r ∷ []

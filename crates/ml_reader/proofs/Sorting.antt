@@ -43,14 +43,14 @@ one_clause_more cs ds c rest clauses more items further h g =
       whole = h.whole ∙ sym (append_assoc before (c ∷ []) rest);
       right = ap (list_all is_right) (parts_more ds before c) ∙ list_all-both is_right (parts ds before) p h.right g.right;
       in_program =
-      g.in_program
-      ∙ ap (λ ks. ks ++ filter_map clause_part p) h.in_program
-      ∙ sym (ap (filter_map clause_part) (parts_more ds before c) ∙ filter_map-append clause_part (parts ds before) p);
+          g.in_program
+          ∙ ap (λ ks. ks ++ filter_map clause_part p) h.in_program
+          ∙ sym (ap (filter_map clause_part) (parts_more ds before c) ∙ filter_map-append clause_part (parts ds before) p);
       in_lists =
-      g.in_lists
-      ∙ ap (λ is. is ++ filter_map item_part p) h.in_lists
-      ∙ sym (ap (filter_map item_part) (parts_more ds before c) ∙ filter_map-append item_part (parts ds before) p);
-      well_read = h.well_read.1
+          g.in_lists
+          ∙ ap (λ is. is ++ filter_map item_part p) h.in_lists
+          ∙ sym (ap (filter_map item_part) (parts_more ds before c) ∙ filter_map-append item_part (parts ds before) p);
+      well_read = h.well_read.1;
     }
 
 pub clause_goes_wrong : (cs : List Written) (ds : List Decl) (c : Written) (rest : List Written) (clauses : List Clause) (items : List (ℕ × Tree)) (f : ReadFault)
@@ -66,5 +66,5 @@ all_sorted cs ds clauses items h d =
       declared = d;
       right = ap (λ cs. list_all is_right (parts ds cs)) same ∙ h.right;
       in_program = h.in_program ∙ sym (ap (λ cs. filter_map clause_part (parts ds cs)) same);
-      in_lists = h.in_lists ∙ sym (ap (λ cs. filter_map item_part (parts ds cs)) same)
+      in_lists = h.in_lists ∙ sym (ap (λ cs. filter_map item_part (parts ds cs)) same);
     }

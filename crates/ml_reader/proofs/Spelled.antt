@@ -171,7 +171,7 @@ declared_said (compound f (tree t no_trees)) d e = by (kind_of f) refl e
         let spelled = predicate_spelled t d.pred parts.0 in record {
           written = inl (ap (λ g. compound_1 g t) (kind_named f k is ∙ ap kind_name parts.1) ∙ ap (compound_1 (kind_name d.kind)) spelled.0, parts.2);
           small = spelled.1;
-          free = free_of (said_by d) parts.3
+          free = free_of (said_by d) parts.3;
         }
 declared_said (compound f (tree t (tree u no_trees))) d e = by (kind_of f) refl e
   where
@@ -182,11 +182,11 @@ declared_said (compound f (tree t (tree u no_trees))) d e = by (kind_of f) refl 
         let spelled = predicate_spelled t d.pred parts.0 in
         let keys = numbers_spelled u d.keys parts.2 in record {
           written =
-          inr (ap (λ g. compound_2 g t u) (kind_named f k is ∙ ap kind_name parts.1)
-          ∙ ap (λ v. compound_2 (kind_name d.kind) v u) spelled.0
-          ∙ ap (compound_2 (kind_name d.kind) (indicator d.pred.name d.pred.arity)) keys);
+              inr (ap (λ g. compound_2 g t u) (kind_named f k is ∙ ap kind_name parts.1)
+              ∙ ap (λ v. compound_2 (kind_name d.kind) v u) spelled.0
+              ∙ ap (compound_2 (kind_name d.kind) (indicator d.pred.name d.pred.arity)) keys);
           small = spelled.1;
-          free = free_of (said_by d) parts.3
+          free = free_of (said_by d) parts.3;
         }
 declared_said (compound f (tree t (tree u (tree v ts)))) d e = cc e
 

@@ -95,13 +95,7 @@ fn cell(t: &Term) -> Option<(&Term, &Term)>
 {
     match t {
         Term::Cmp(f, ts) => match pair(ts.as_slice()) {
-            Some((t, u)) => {
-                if is(f, b".") {
-                    Some((t, u))
-                } else {
-                    None
-                }
-            }
+            Some((t, u)) => { if is(f, b".") { Some((t, u)) } else { None } }
             None => None,
         },
         Term::Var(_) => None,

@@ -117,13 +117,7 @@ pub fn directive_of(term: &Term) -> Option<&Term>
 {
     match term {
         Term::Cmp(f, args) => match single(args.as_slice()) {
-            Some(t) => {
-                if is(f, b":-") {
-                    Some(t)
-                } else {
-                    None
-                }
-            }
+            Some(t) => { if is(f, b":-") { Some(t) } else { None } }
             None => None,
         },
         Term::Var(_) => None,

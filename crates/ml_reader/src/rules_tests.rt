@@ -109,12 +109,28 @@ fn clauses_that_can_not_stand_are_bad(rt: HostRuntime) -> Result<(), Fail> {
 fn the_first_fault_of_rules_is_told(rt: HostRuntime) -> Result<(), Fail> {
     let alloc = rt.alloc();
     let table: [(&[u8], ReadKind, usize); 9] = [
-        (b":- relation(p/1). :- relation(p/1).", ReadKind::TwiceDeclared, 18),
-        (b":- relation(p/1). :- clauses(p/1).", ReadKind::TwiceDeclared, 18),
+        (
+            b":- relation(p/1). :- relation(p/1).",
+            ReadKind::TwiceDeclared,
+            18,
+        ),
+        (
+            b":- relation(p/1). :- clauses(p/1).",
+            ReadKind::TwiceDeclared,
+            18,
+        ),
         (b":- relation(p/1). p(X).", ReadKind::BadClause, 18),
         (b":- relation(p/1). p(1) :- true.", ReadKind::BadClause, 18),
-        (b"p(X). :- relation(p/1). :- p.", ReadKind::BadDeclaration, 24),
-        (b":- p. :- relation(p/1). :- relation(p/1).", ReadKind::BadDeclaration, 0),
+        (
+            b"p(X). :- relation(p/1). :- p.",
+            ReadKind::BadDeclaration,
+            24,
+        ),
+        (
+            b":- p. :- relation(p/1). :- relation(p/1).",
+            ReadKind::BadDeclaration,
+            0,
+        ),
         (b":- p. a = b = c.", ReadKind::PriorityClash, 12),
         (b":- relation(is/2).", ReadKind::Unexpected, 14),
         (b"p. X. ?- p.", ReadKind::BadClause, 3),
@@ -154,7 +170,10 @@ fn items_have_at_most_4096_canonical_bytes(rt: HostRuntime) -> Result<(), Fail> 
 #[test]
 fn items_stand_in_the_order_of_the_text(rt: HostRuntime) -> Result<(), Fail> {
     let alloc = rt.alloc();
-    let rules = read_rules(alloc, b":- relation(p/1). :- clauses(c/1). c(1). p(2). c(3).")?;
+    let rules = read_rules(
+        alloc,
+        b":- relation(p/1). :- clauses(c/1). c(1). p(2). c(3).",
+    )?;
     let items = Items::from_vec(rules.items.copy_of(alloc)?.into_vec());
     let wanted = [1, 0, 1];
     assert_eq!(rt; items.as_slice().len(), wanted.len());

@@ -23,7 +23,7 @@ loop-read-preserved c =
     let becomes = c.in_ok-declare.ensures.ok in
     let few : length c.declare.new.decls ≤ i + 1 = omega (arith, one_at_most _ _ _ becomes, c.loop-read.invariant.few) in record {
       declare =
-      subst (λ cs. Declare cs c.declare.new.decls) (sym (one_read_further reads i c.read-item.result c.loop-read-test.true c.read-item.is))
-      (declare_more _ _ _ _ c.loop-read.invariant.declare becomes);
-      few = few
+          subst (λ cs. Declare cs c.declare.new.decls) (sym (one_read_further reads i c.read-item.result c.loop-read-test.true c.read-item.is))
+          (declare_more _ _ _ _ c.loop-read.invariant.declare becomes);
+      few = few;
     }

@@ -51,7 +51,8 @@ fn is_unified(
     b: &Term,
     count: usize,
 ) -> Result<bool, AllocError> {
-    let Some(map) = unified(rt, alloc, a, b)? else {
+    assert!(rt; is_valid(a) && is_valid(b));
+    let Some(map) = mgu(alloc, a, b)? else {
         return Ok(false);
     };
     let (a, b) = (apply(alloc, &map, a)?, apply(alloc, &map, b)?);
@@ -65,6 +66,7 @@ fn a_unifier_has_a_term_for_each_variable(rt: HostRuntime) -> Result<(), Fail> {
     let left = two(&rt, alloc, b"f", Term::Var(0), b.copy_of(alloc)?)?;
     let right = two(&rt, alloc, b"f", a.copy_of(alloc)?, Term::Var(1))?;
     let map = unified(&rt, alloc, &left, &right)?.expect(&rt, "they have a unifier");
+    assert!(rt; is_valid(&left));
     assert!(rt; has(&map, 0, &a) && has(&map, 1, &b) && map.as_slice().len() == 2);
     let both = two(&rt, alloc, b"f", a, b)?;
     assert_eq!(rt;
@@ -164,9 +166,9 @@ fn nested(rt: &impl Abort, alloc: Global, levels: usize, t: Term) -> Result<Term
 #[test]
 fn a_cycle_through_deep_terms_is_found(rt: HostRuntime) -> Result<(), Fail> {
     let alloc = rt.alloc();
-    let deep = nested(&rt, alloc, 4000, Term::Var(1))?;
+    let deep = nested(&rt, alloc, 1000, Term::Var(1))?;
     let left = two(&rt, alloc, b"f", Term::Var(0), deep)?;
-    let deep = nested(&rt, alloc, 4000, Term::Var(0))?;
+    let deep = nested(&rt, alloc, 1000, Term::Var(0))?;
     let right = two(&rt, alloc, b"f", deep, Term::Var(0))?;
     assert!(rt; meets(&rt, alloc, &left, &right)?);
     let left = two(
@@ -174,7 +176,7 @@ fn a_cycle_through_deep_terms_is_found(rt: HostRuntime) -> Result<(), Fail> {
         alloc,
         b"f",
         Term::Var(0),
-        nested(&rt, alloc, 4000, Term::Var(0))?,
+        nested(&rt, alloc, 1000, Term::Var(0))?,
     )?;
     assert!(rt; !meets(&rt, alloc, &left, &right)?);
     Ok(())

@@ -1,5 +1,5 @@
 -- What a heap's fields say of the trees that it is seen as.
-use Rattle.std.specs.Prelude.{◌≡◌, ℕ, suc, ◌<◌, ◌≤◌, Bool, zero, List, [], ◌∷◌, map, reverse, length, get_or}
+use Rattle.std.specs.Prelude.{◌≡◌, ℕ, suc, ◌<◌, ◌≤◌, Bool, true, zero, List, [], ◌∷◌, map, reverse, length, get_or}
 use Rattle.std.proofs.Common.{refl, sym, ap, ◌∙◌, subst, arith}
 use Rattle.std.proofs.lemmas.List.{length-map, get_or_read}
 use Rattle.ml_term.specs.Tree.{Tree, compound, trees_of, list_of}
@@ -7,12 +7,16 @@ use Rattle.ml_heap.specs.Changes.{Changes, state, tree_in, stands_for, cell_coun
 use Rattle.ml_heap.specs.declared.cell.Cell.{Cell}
 use Rattle.ml_heap.specs.declared.cell.Cell.TheVariants.{Unbound, Bound, Int, Atom, Cmp}
 use Rattle.ml_heap.specs.declared.cell.Step.{Step}
-use Rattle.ml_heap.specs.Layout.{changes_of, cell_in, rank_of, Fits, FitAll, StandFor, AreLinked, IsEnd, IsKept}
+use Rattle.std.specs.List.{list_all}
+use Rattle.ml_term.specs.Valid.{is_valid}
+use Rattle.ml_heap.specs.Looks.{Tells}
+use Rattle.ml_heap.specs.Layout.{changes_of, is_valid_change, cell_in, rank_of, Fits, FitAll, StandFor, AreLinked, IsEnd, IsKept}
 use Rattle.ml_heap.proofs.Keeping.{stand_now}
+use Rattle.ml_heap.proofs.Validity.{stands_for_a_term}
 use Rattle.ml_heap.proofs.CellsSay.{linked, fits_at}
 
 -- the arguments of a compound as a list
-listed : (us : List Tree) → list_of (trees_of us) ≡ us
+pub listed : (us : List Tree) → list_of (trees_of us) ≡ us
 listed [] = refl
 listed (u ∷ us) = ap (λ z. u ∷ z) (listed us)
 
@@ -25,6 +29,9 @@ read_placed ts (q ∷ qs) (suc i) l = read_placed ts qs i (omega arith)
 module _ (steps : List Step) (cells : List Cell) (n : ℕ) (k : IsKept steps cells n) (h : Changes) (e : changes_of steps cells ≡ h) where
   pub stands : StandFor cells (state h)
   stands = subst (λ h. StandFor cells (state h)) e (stand_now (reverse steps) cells k.kept)
+
+  pub is_term : (r : ℕ) → is_valid (stands_for h r) ≡ true
+  is_term = stands_for_a_term h (subst (λ h. list_all is_valid_change h ≡ true) e k.valid) (omega (arith, k.few, k.count, ap (λ h. (state h).created) e))
 
   pub are_linked : (seen : List Cell) → seen ≡ cells → AreLinked seen
   are_linked seen p = subst AreLinked (sym p) (linked (state h).trees cells stands.fit)
@@ -93,3 +100,11 @@ is_lower ts cells t (Bound m q) n f e y = absurd e
 is_lower ts cells t (Int z) n f e y = omega arith
 is_lower ts cells t (Atom g) n f e y = omega arith
 is_lower ts cells t (Cmp g qs b) n f e y = omega arith
+
+-- a cell that fits its tree and isn't bound tells it
+pub tells : (h : Changes) (cells : List Cell) (t : Tree) (c : Cell) → length (state h).trees ≡ length cells → Fits (state h).trees cells t c → IsEnd c → Tells h t c
+tells h cells t (Unbound n) s f e = f
+tells h cells t (Bound n q) s f e = e
+tells h cells t (Int z) s f e = f
+tells h cells t (Atom g) s f e = f
+tells h cells t (Cmp g qs b) s f e = (f.0, (λ i l. omega (arith, f.1 i l, s)), f.2)

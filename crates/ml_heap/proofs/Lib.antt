@@ -9,3 +9,10 @@ pub mod Undoing
 pub mod Bindings
 pub mod Solving
 pub mod Rounds
+pub mod Compounds
+pub mod Walking
+pub mod Worklists
+pub mod NumbersBelow
+pub mod FirstPlaces
+pub mod Copying
+pub mod Validity

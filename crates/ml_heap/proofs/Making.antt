@@ -1,21 +1,25 @@
 -- A cell that is made: what is kept, and what the new heap is.
-use Rattle.std.specs.Prelude.{◌≡◌, ℕ, ◌+◌, ◌<◌, ◌≤◌, ℤ, List, [], ◌∷◌, ◌++◌, map, reverse, length, get_or, Bool, true, Some}
+use Rattle.std.specs.Prelude.{◌≡◌, ℕ, ◌+◌, ◌^◌, ◌<◌, ◌≤◌, ℤ, List, [], ◌∷◌, ◌++◌, map, reverse, length, get_or, Bool, true, Some}
 use Rattle.std.proofs.Common.{refl, sym, ap, ◌∙◌, subst, arith, length-append}
+use Rattle.std.specs.List.{list_all}
+use Rattle.std.proofs.lemmas.Bool.{and_from, le-leb}
 use Rattle.std.proofs.lemmas.List.{reverse-append, length-reverse}
+use Rattle.ml_term.specs.Names.{is_name}
+use Rattle.ml_term.specs.Valid.{is_in_range}
 use Rattle.ml_term.specs.Tree.{Tree, variable, integer, atom, compound, trees_of, is_ground}
 use Rattle.ml_heap.specs.Changes.{Change, Changes, State, state, changed, tree_in, HasOneMore}
 use Rattle.ml_heap.specs.declared.cell.Cell.{Cell}
 use Rattle.ml_heap.specs.declared.cell.Cell.TheVariants.{Unbound, Int, Atom, Cmp}
 use Rattle.ml_heap.specs.declared.cell.Step.{Step}
 use Rattle.ml_heap.specs.declared.cell.Step.TheVariants.{Made}
-use Rattle.ml_heap.specs.Layout.{made_by, changes_of, number_of, Fits, StandFor, AreKept, IsKept}
+use Rattle.ml_heap.specs.Layout.{made_by, is_valid_change, changes_of, number_of, Fits, StandFor, AreKept, IsKept}
 use Rattle.ml_heap.proofs.MarksStay.{marks_kept}
 use Rattle.ml_heap.proofs.Keeping.{one_made, counted, stand_now, tree_stays, one_stands_more, kept_more}
 use Rattle.ml_heap.proofs.Lists.{map_alike}
 
 pub nothing_kept : IsKept [] [] 0
 unfolding state
-nothing_kept = record { kept = refl; count = refl }
+nothing_kept = record { kept = refl; count = refl; few = omega arith; valid = refl }
 
 pub as_many_steps : (steps : List Step) (cells : List Cell) → AreKept (reverse steps) cells → length (changes_of steps cells) ≡ length steps
 as_many_steps steps cells k = counted (reverse steps) cells k ∙ length-reverse steps
@@ -45,26 +49,28 @@ module _ (steps : List Step) (cells : List Cell) (n : ℕ) (k : IsKept steps cel
   module _ (c : Cell) (t : Tree) (m : ℕ) (trees : (changed (made_by c) before).trees ≡ before.trees ++ t ∷ []) (fits : Fits (before.trees ++ t ∷ []) (cells ++ c ∷ []) t c)
       (more : before.created ≤ (changed (made_by c) before).created)
       (new : (i : ℕ) → number_of c ≡ Some i → (before.created ≤ i) × (i < (changed (made_by c) before).created)) (count : m ≡ (changed (made_by c) before).created) where
-    pub is_kept : IsKept (steps ++ Made ∷ []) (cells ++ c ∷ []) m
+    pub is_kept : m < 2 ^ 32 → is_valid_change (made_by c) ≡ true → IsKept (steps ++ Made ∷ []) (cells ++ c ∷ []) m
     unfolding state
-    is_kept = record {
+    is_kept l v = record {
       kept = subst (λ ss. AreKept ss (cells ++ c ∷ [])) (sym (reverse-append steps (Made ∷ [])))
           (kept_more (reverse steps) cells c k.kept (one_stands_more cells c before (changed (made_by c) before) t stands trees more fits new));
       count = count ∙ ap (λ h. (state h).created) (sym (made_changes steps cells c));
+      few = l;
+      valid = ap (list_all is_valid_change) (made_changes steps cells c) ∙ and_from _ _ v k.valid;
     }
 
     pub has_one_more : HasOneMore (changes_of steps cells) (changes_of (steps ++ Made ∷ []) (cells ++ c ∷ [])) (length cells) t
     has_one_more = subst (λ h. HasOneMore (changes_of steps cells) h (length cells) t) (sym (made_changes steps cells c))
         (subst (λ r. HasOneMore (changes_of steps cells) (made_by c ∷ changes_of steps cells) r t) (sym place_is) (has_more (made_by c) (changes_of steps cells) t trees))
 
-  pub variable_kept : IsKept (steps ++ Made ∷ []) (cells ++ Unbound n ∷ []) (n + 1)
-  variable_kept = is_kept (Unbound n) (variable before.created) (n + 1) refl (ap variable (sym k.count)) (omega arith) (λ i e. (omega (arith, some_is e, k.count), omega (arith, some_is e, k.count))) (omega (arith, k.count))
+  pub variable_kept : n + 1 < 2 ^ 32 → IsKept (steps ++ Made ∷ []) (cells ++ Unbound n ∷ []) (n + 1)
+  variable_kept l = is_kept (Unbound n) (variable before.created) (n + 1) refl (ap variable (sym k.count)) (omega arith) (λ i e. (omega (arith, some_is e, k.count), omega (arith, some_is e, k.count))) (omega (arith, k.count)) l refl
 
-  pub integer_kept : (z : ℤ) → IsKept (steps ++ Made ∷ []) (cells ++ Int z ∷ []) n
-  integer_kept z = is_kept (Int z) (integer z) n refl refl (omega arith) (λ i e. absurd (cc e)) k.count
+  pub integer_kept : (z : ℤ) → is_in_range z ≡ true → IsKept (steps ++ Made ∷ []) (cells ++ Int z ∷ []) n
+  integer_kept z v = is_kept (Int z) (integer z) n refl refl (omega arith) (λ i e. absurd (cc e)) k.count k.few v
 
-  pub atom_kept : (f : List ℕ) → IsKept (steps ++ Made ∷ []) (cells ++ Atom f ∷ []) n
-  atom_kept f = is_kept (Atom f) (atom f) n refl refl (omega arith) (λ i e. absurd (cc e)) k.count
+  pub atom_kept : (f : List ℕ) → is_name f ≡ true → IsKept (steps ++ Made ∷ []) (cells ++ Atom f ∷ []) n
+  atom_kept f v = is_kept (Atom f) (atom f) n refl refl (omega arith) (λ i e. absurd (cc e)) k.count k.few v
 
   pub one_variable : HasOneMore (changes_of steps cells) (changes_of (steps ++ Made ∷ []) (cells ++ Unbound n ∷ [])) (length cells) (variable (state (changes_of steps cells)).created)
   one_variable = has_one_more (Unbound n) (variable before.created) (n + 1) refl (ap variable (sym k.count)) (omega arith) (λ i e. (omega (arith, some_is e, k.count), omega (arith, some_is e, k.count))) (omega (arith, k.count))
@@ -88,8 +94,8 @@ module _ (steps : List Step) (cells : List Cell) (n : ℕ) (k : IsKept steps cel
       ground,
     )
 
-    pub compound_kept : IsKept (steps ++ Made ∷ []) (cells ++ Cmp f qs g ∷ []) n
-    compound_kept = is_kept (Cmp f qs g) whole n refl fits_whole (omega arith) (λ i e. absurd (cc e)) k.count
+    pub compound_kept : is_name f ≡ true → 1 ≤ length qs → length qs ≤ 255 → IsKept (steps ++ Made ∷ []) (cells ++ Cmp f qs g ∷ []) n
+    compound_kept v low high = is_kept (Cmp f qs g) whole n refl fits_whole (omega arith) (λ i e. absurd (cc e)) k.count k.few (and_from _ _ (and_from _ _ v (le-leb 1 (length qs) low)) (le-leb (length qs) 255 high))
 
     pub one_compound : HasOneMore (changes_of steps cells) (changes_of (steps ++ Made ∷ []) (cells ++ Cmp f qs g ∷ [])) (length cells) (compound f (trees_of (map (tree_in (state (changes_of steps cells)).trees) qs)))
     one_compound = has_one_more (Cmp f qs g) whole n refl fits_whole (omega arith) (λ i e. absurd (cc e)) k.count

@@ -3,6 +3,7 @@ use Rattle.std.specs.Prelude.{◌≡◌, ◌≢◌, ℕ, suc, zero, ◌<◌, ◌
 use Rattle.std.proofs.Common.{refl, sym, ap, ◌∙◌, subst, inl, inr, arith}
 use Rattle.std.proofs.lemmas.List.{length-set, get_or-set_same, get_or-set_other, reverse-append}
 use Rattle.std.proofs.lemmas.List as L
+use Rattle.std.specs.List.{list_all}
 use Rattle.std.proofs.Math.ListN.{get_or-map}
 use Rattle.std.proofs.lemmas.Bool.Decides.{eqb_tells}
 use Rattle.ml_term.specs.Tree.{Tree, variable, integer, compound, trees_of, is_ground, occurs, substituted, substituted_in, variables}
@@ -15,7 +16,7 @@ use Rattle.ml_heap.specs.declared.cell.Cell.{Cell}
 use Rattle.ml_heap.specs.declared.cell.Cell.TheVariants.{Unbound, Bound, Int, Atom, Cmp}
 use Rattle.ml_heap.specs.declared.cell.Step.{Step}
 use Rattle.ml_heap.specs.declared.cell.Step.TheVariants.{Binding}
-use Rattle.ml_heap.specs.Layout.{made_by, changes_of, cell_in, number_of, rank_of, Fits, StandFor, freed, AreKept, IsKept}
+use Rattle.ml_heap.specs.Layout.{made_by, is_valid_change, changes_of, cell_in, number_of, rank_of, Fits, StandFor, freed, AreKept, IsKept}
 use Rattle.ml_heap.proofs.Keeping.{one_replaced, stand_now}
 use Rattle.ml_heap.proofs.MarksStay.{marks_kept}
 
@@ -159,6 +160,8 @@ module _ (steps : List Step) (cells : List Cell) (m v n q : ℕ) (k : IsKept ste
   binding_kept = record {
     kept = subst (λ ss. AreKept ss after_it) (sym (reverse-append steps (Binding v q ∷ []))) all_kept;
     count = k.count ∙ sym (ap (λ h. (state h).created) bound_changes ∙ ap (λ s. s.created) state_after);
+    few = k.few;
+    valid = ap (list_all is_valid_change) bound_changes ∙ k.valid;
   }
 
   pub binding_trees : (state (changes_of (steps ++ Binding v q ∷ []) after_it)).trees ≡ bound_in (tree_in earlier.trees v) (tree_in earlier.trees q) earlier.trees

@@ -1,6 +1,6 @@
 -- How many turns the equations of unification take, whatever map there is: the measure of a worklist.
 use Rattle.std.specs.Prelude.{◌≡◌, ℕ, ◌<◌, ◌≤◌, List, [], ◌∷◌, ◌++◌, Option}
-use Rattle.std.proofs.Common.{inl, inr, refl, ap, arith}
+use Rattle.std.proofs.Common.{inl, inr, refl, ap, subst, arith}
 use Rattle.std.proofs.lemmas.Bool.Decides.{Decides-int_eq}
 use Rattle.std.proofs.lemmas.Bool.{eq-eqb}
 use Rattle.std.proofs.lemmas.Slice.Eq.{bytes_eq-Decides}
@@ -12,6 +12,7 @@ use Rattle.ml_term.specs.Unify.{binding}
 use Rattle.ml_term.specs.Runs.{Next, now, ask}
 use Rattle.ml_term.specs.Falling.{Falls, AlwaysFalls}
 use Rattle.ml_term.proofs.Runs as R
+use Rattle.ml_heap.specs.Equations.{Turned, same_sides, sides_split, variable_replaced}
 use Rattle.ml_term.proofs.UnificationEnds.{turn_falls, none_left}
 
 -- the equations that a turn leads to, if it goes on
@@ -79,3 +80,9 @@ mutual
       let a = fewer_same t (zip (list_of ts) (list_of ts) ++ es) in
       let b = no_more ts es in
       omega arith
+
+-- each rule takes a turn
+pub turn_falls_by : (ts : List Tree) (t u : Tree) (es : List Equation) (ts' : List Tree) (es' : List Equation) → Turned ts t u es ts' es' → rounds es' < rounds ((t, u) ∷ es)
+turn_falls_by ts t u es ts' es' (same_sides e p q) = rw q (subst (λ w. rounds es < rounds ((t, w) ∷ es)) e (fewer_same t es))
+turn_falls_by ts t u es ts' es' (sides_split us s p q) = rw q (fewer_split (t, u) es us s)
+turn_falls_by ts t u es ts' es' (variable_replaced n w s p q) = rw q (fewer_bound (t, u) es n w s)

@@ -1,22 +1,19 @@
 -- A worklist of equations between cells: what its rules lead to, as trees of the heap.
-use Rattle.std.specs.Prelude.{◌≡◌, ℕ, pos, List, [], ◌∷◌, ◌++◌, map, Some, None}
-use Rattle.std.proofs.Common.{refl, sym, ap, ◌∙◌}
+use Rattle.std.specs.Prelude.{◌≡◌, ℕ, pos, true, List, [], ◌∷◌, ◌++◌, map, Option, Some, None}
+use Rattle.std.specs.Option.{is_some}
+use Rattle.std.proofs.Common.{refl, sym, ap, ◌∙◌, subst}
 use Rattle.std.proofs.Math.ListN.{get_or-map}
 use Rattle.ml_term.specs.Tree.{Tree, integer}
-use Rattle.ml_term.specs.Unify.{Equation, Map, dropped, split, bound, clash, step, applied, binding, solved, unifier}
-use Rattle.ml_term.specs.Unifiers.{under, followed_by, solved_by_step}
+use Rattle.ml_term.specs.Unify.{Equation, Map, dropped, split, bound, clash, step, applied, binding, solved, mgu, unifier}
+use Rattle.ml_term.specs.Unifiers.{under, followed_by, followed_by_result, solved_by_step}
 use Rattle.ml_term.proofs.MapsFollow.{applied_followed, applied_empty, followed_by_empty}
-use Rattle.ml_term.proofs.Solved.{solved_step, solved_none_left}
+use Rattle.ml_term.proofs.Solved.{solved_step, solved_none_left, solved_from}
 use Rattle.ml_term.proofs.EqualSides.{same}
-use Rattle.ml_heap.specs.Changes.{tree_in}
+use Rattle.ml_heap.specs.Changes.{Changes, trees, stands_for, tree_in}
+use Rattle.ml_heap.specs.Equations.{stacked, left_by, AreBelow, Turned, same_sides, sides_split, variable_replaced}
 
 abbrev sides : Tree → Tree → Equation
 sides t u = (t, u)
-
--- the equations of some pairs of cells, the latest pair first, before others
-abbrev pub stacked : List Tree → List Equation → List (ℕ × ℕ) → List Equation
-stacked ts es [] = es
-stacked ts es (p ∷ ps) = stacked ts ((tree_in ts p.0, tree_in ts p.1) ∷ es) ps
 
 -- the pair that is put last is the first equation
 pub one_more : (ts : List Tree) (es : List Equation) (ps : List (ℕ × ℕ)) (p : ℕ × ℕ) → stacked ts es (ps ++ p ∷ []) ≡ (tree_in ts p.0, tree_in ts p.1) ∷ stacked ts es ps
@@ -47,25 +44,22 @@ pub record Lead (ts : List Tree) (es : List Equation) (ts' : List Tree) (es' : L
   pub trees : ts' ≡ map (applied by) ts
   pub solves : (m : Map) → solved es m ≡ solved es' (followed_by m by)
 
--- what two terms' equation has led to: a map, that was applied to the trees, and the equations that are left
-pub record Reached (ts : List Tree) (t u : Tree) (ts' : List Tree) (es' : List Equation) : Type 0 where
+-- what some equations have led to: a map, that was applied to the trees, and the equations that are left
+pub record Reached (ts : List Tree) (es : List Equation) (ts' : List Tree) (es' : List Equation) : Type 0 where
   pub so_far : Map
   pub trees : ts' ≡ map (applied so_far) ts
-  pub solves : unifier t u ≡ solved es' so_far
+  pub solves : mgu es ≡ solved es' so_far
 
-pub starts : (ts : List Tree) (t u : Tree) → Reached ts t u ts ((t, u) ∷ [])
-starts ts t u = record { so_far = []; trees = sym (unchanged ts); solves = refl }
+pub starts : (ts : List Tree) (es : List Equation) → Reached ts es ts es
+starts ts es = record { so_far = []; trees = sym (unchanged ts); solves = refl }
 
-pub goes_on : (ts : List Tree) (t u : Tree) (ts' : List Tree) (es' : List Equation) (ts'' : List Tree) (es'' : List Equation) → Reached ts t u ts' es' → Lead ts' es' ts'' es'' → Reached ts t u ts'' es''
-goes_on ts t u ts' es' ts'' es'' r l = record {
+pub goes_on : (ts : List Tree) (es : List Equation) (ts' : List Tree) (es' : List Equation) (ts'' : List Tree) (es'' : List Equation)
+    → Reached ts es ts' es' → Lead ts' es' ts'' es'' → Reached ts es ts'' es''
+goes_on ts es ts' es' ts'' es'' r l = record {
   so_far = followed_by r.so_far l.by;
   trees = l.trees ∙ (ap (map (applied l.by)) r.trees ∙ twice_applied r.so_far l.by ts);
   solves = r.solves ∙ l.solves r.so_far;
 }
-
--- nothing is left: the map is the unifier
-pub is_over : (ts : List Tree) (t u : Tree) (ts' : List Tree) → Reached ts t u ts' [] → (m : Map) × ((unifier t u ≡ Some m) × (ts' ≡ map (applied m) ts))
-is_over ts t u ts' r = (r.so_far, (r.solves ∙ solved_none_left r.so_far, r.trees))
 
 -- equations that are solved alike, with the trees as they were
 pub alike_lead : (ts : List Tree) (es fs : List Equation) → ((m : Map) → solved es m ≡ solved fs m) → Lead ts es ts fs
@@ -81,8 +75,76 @@ dropped_leads ts e es s = alike_lead ts (e ∷ es) es (λ m. solved_step e es m 
 pub split_leads : (ts : List Tree) (e : Equation) (es us : List Equation) → step e.0 e.1 ≡ split us → Lead ts (e ∷ es) ts (us ++ es)
 split_leads ts e es us s = alike_lead ts (e ∷ es) (us ++ es) (λ m. solved_step e es m ∙ ap (λ x. solved_by_step x es m) s)
 
-pub bound_leads : (ts : List Tree) (e : Equation) (es : List Equation) (n : ℕ) (t : Tree) → step e.0 e.1 ≡ bound n t → Lead ts (e ∷ es) (map (applied (binding n t)) ts) (under (binding n t) es)
+pub bound_leads : (ts : List Tree) (e : Equation) (es : List Equation) (n : ℕ) (t : Tree) → step e.0 e.1 ≡ bound n t
+    → Lead ts (e ∷ es) (map (applied (binding n t)) ts) (under (binding n t) es)
 bound_leads ts e es n t s = record { by = binding n t; trees = refl; solves = λ m. solved_step e es m ∙ ap (λ x. solved_by_step x es m) s }
 
-pub clash_fails : (ts : List Tree) (t u : Tree) (ts' : List Tree) (e : Equation) (es : List Equation) → step e.0 e.1 ≡ clash → Reached ts t u ts' (e ∷ es) → unifier t u ≡ None
-clash_fails ts t u ts' e es s r = r.solves ∙ (solved_step e es r.so_far ∙ ap (λ x. solved_by_step x es r.so_far) s)
+-- where a rule leads
+pub turn_leads : (ts : List Tree) (t u : Tree) (es : List Equation) (ts' : List Tree) (es' : List Equation) → Turned ts t u es ts' es' → Lead ts ((t, u) ∷ es) ts' es'
+turn_leads ts t u es ts' es' (same_sides e p q) = rw (p, q) (alike_lead ts ((t, u) ∷ es) es (subst (λ w. (m : Map) → solved ((t, w) ∷ es) m ≡ solved es m) e (same t es)))
+turn_leads ts t u es ts' es' (sides_split us s p q) = rw (p, q) (split_leads ts (t, u) es us s)
+turn_leads ts t u es ts' es' (variable_replaced n w s p q) = rw (p, q) (bound_leads ts (t, u) es n w s)
+
+-- nothing is left: the map is the unifier
+module _ (ts : List Tree) (es : List Equation) (ts' : List Tree) (r : Reached ts es ts' []) where
+  found : mgu es ≡ Some r.so_far
+  found = r.solves ∙ solved_none_left r.so_far
+
+  pub is_found : is_some (mgu es) ≡ true
+  is_found = ap is_some found
+
+  pub by_the_unifier : (m : Map) → mgu es ≡ Some m → ts' ≡ map (applied m) ts
+  by_the_unifier m e =
+      let same : r.so_far ≡ m = cc (found, e) in
+      r.trees ∙ ap (λ m. map (applied m) ts) same
+
+-- a clash: there is none
+module _ (ts : List Tree) (es : List Equation) (ts' : List Tree) (t u : Tree) (fs : List Equation) (s : step t u ≡ clash) (r : Reached ts es ts' ((t, u) ∷ fs)) where
+  pub none_found : mgu es ≡ None
+  none_found = r.solves ∙ (solved_step (t, u) fs r.so_far ∙ ap (λ x. solved_by_step x fs r.so_far) s)
+
+  pub no_replacing : (ts'' : List Tree) (m : Map) → mgu es ≡ Some m → ts'' ≡ map (applied m) ts
+  no_replacing ts'' m e = absurd (cc (none_found, e))
+
+-- one rule, and then the unifier of what it leaves
+module _ (ts : List Tree) (t u : Tree) (ts' : List Tree) (es' : List Equation) (l : Lead ts ((t, u) ∷ []) ts' es') where
+  later : unifier t u ≡ followed_by_result l.by (mgu es')
+  later = l.solves [] ∙ solved_from es' l.by
+
+  pub found_later : is_some (unifier t u) ≡ is_some (mgu es')
+  found_later = ap is_some later ∙ result (mgu es')
+    where
+      result : (r : Option Map) → is_some (followed_by_result l.by r) ≡ is_some r
+      result None = refl
+      result (Some n) = refl
+
+  pub replaced_later : (ts'' : List Tree) (m : Map) → unifier t u ≡ Some m → ((n : Map) → mgu es' ≡ Some n → ts'' ≡ map (applied n) ts') → ts'' ≡ map (applied m) ts
+  replaced_later ts'' m e h = result (mgu es') refl
+    where
+      result : (r : Option Map) → mgu es' ≡ r → ts'' ≡ map (applied m) ts
+      result None q = absurd (cc (later, q, e))
+      result (Some n) q =
+          let same : m ≡ followed_by l.by n = cc (later, ap (followed_by_result l.by) q, e) in
+          h n q ∙ (ap (map (applied n)) l.trees ∙ (twice_applied l.by n ts ∙ ap (λ m. map (applied m) ts) (sym same)))
+
+-- the first rule with an empty worklist, where cells are read by other names
+module _ (h : Changes) (a b q r : ℕ) (p : q ≡ a) (o : r ≡ b) where
+  pub first_leads : (ps : List (ℕ × ℕ)) (ts' : List Tree) (es' : List Equation) → ps ≡ [] → Turned (trees h) (stands_for h q) (stands_for h r) (left_by (trees h) ps) ts' es'
+      → Lead (trees h) ((stands_for h a, stands_for h b) ∷ []) ts' es'
+  first_leads ps ts' es' n d =
+      turn_leads (trees h) (stands_for h a) (stands_for h b) [] ts' es'
+      (subst (λ zs. Turned (trees h) (stands_for h a) (stands_for h b) (left_by (trees h) zs) ts' es') n
+      (subst (λ y. Turned (trees h) (stands_for h a) (stands_for h y) (left_by (trees h) ps) ts' es') o
+      (subst (λ x. Turned (trees h) (stands_for h x) (stands_for h r) (left_by (trees h) ps) ts' es') p d)))
+
+  first_clashes : step (stands_for h q) (stands_for h r) ≡ clash → step (stands_for h a) (stands_for h b) ≡ clash
+  first_clashes k = subst (λ y. step (stands_for h a) (stands_for h y) ≡ clash) o (subst (λ x. step (stands_for h x) (stands_for h r) ≡ clash) p k)
+
+  module _ (k : step (stands_for h q) (stands_for h r) ≡ clash) where
+    pub none_at_first : unifier (stands_for h a) (stands_for h b) ≡ None
+    none_at_first =
+        none_found (trees h) ((stands_for h a, stands_for h b) ∷ []) (trees h) (stands_for h a) (stands_for h b) []
+        (first_clashes k) (starts (trees h) ((stands_for h a, stands_for h b) ∷ []))
+
+    pub no_replacing_at_first : (ts'' : List Tree) (m : Map) → unifier (stands_for h a) (stands_for h b) ≡ Some m → ts'' ≡ map (applied m) (trees h)
+    no_replacing_at_first ts'' m e = absurd (cc (none_at_first, e))

@@ -73,6 +73,18 @@ pub record HasOneMore (h h' : Changes) (r : ℕ) (t : Tree) : Type 0 where
   pub trees : (state h').trees ≡ (state h).trees ++ t ∷ []
   pub marks : KeepsMarks h h'
 
+-- Some cells more, after the others, which stay.
+pub record Grows (h h' : Changes) : Type 0 where
+  pub cells : cell_count h ≤ cell_count h'
+  pub others : (q : ℕ) → q < cell_count h → stands_for h' q ≡ stands_for h q
+  pub marks : KeepsMarks h h'
+
+-- some cells more, of which one stands for a tree
+pub record HasTree (h h' : Changes) (r : ℕ) (t : Tree) : Type 0 where
+  pub inside : r < cell_count h'
+  pub stands : stands_for h' r ≡ t
+  pub grown : Grows h h'
+
 -- the arguments of a compound, and none of all other terms
 abbrev pub arguments_of : Tree → List Tree
 arguments_of (compound f ts) = list_of ts

@@ -1,5 +1,8 @@
 -- How cells are laid out: what a heap's fields say of the changes that were made, and when the cells are those of the changes.
-use Rattle.std.specs.Prelude.{◌≡◌, ◌-◌, ◌<◌, ◌≤◌, ◌+◌, ℕ, Bool, true, false, List, [], ◌∷◌, map, reverse, length, take, slice_index_or, slice_set, Option, Some, None}
+use Rattle.std.specs.Prelude.{◌≡◌, ◌-◌, ◌<◌, ◌≤◌, ◌+◌, ◌^◌, ℕ, nat_le, Bool, true, false, ◌&&◌, List, [], ◌∷◌, map, reverse, length, take, slice_index_or, slice_set, Option, Some, None}
+use Rattle.std.specs.List.{list_all}
+use Rattle.ml_term.specs.Names.{is_name}
+use Rattle.ml_term.specs.Valid.{is_in_range}
 use Rattle.ml_term.specs.Tree.{Tree, variable, integer, atom, compound, trees_of, is_ground}
 use Rattle.ml_heap.specs.Changes.{Change, variable_made, integer_made, atom_made, compound_made, variable_bound, Changes, State, state, tree_in}
 use Rattle.ml_heap.specs.declared.cell.Cell.{Cell}
@@ -81,10 +84,20 @@ abbrev pub AreKept : List Step → List Cell → Type 0
 AreKept [] cells = cells ≡ []
 AreKept (s ∷ ss) cells = StandFor cells (state (changes_by (s ∷ ss) cells)) × IsStepOf s cells × AreKept ss (before s cells)
 
--- What a heap's fields keep: the steps are the latest last, and variables are counted.
+-- Whether a change is one of terms of the language: its integer is in range, its name is one, and there are 1 to 255 arguments.
+abbrev pub is_valid_change : Change → Bool
+is_valid_change variable_made = true
+is_valid_change (integer_made z) = is_in_range z
+is_valid_change (atom_made f) = is_name f
+is_valid_change (compound_made f qs) = is_name f && nat_le 1 (length qs) && nat_le (length qs) 255
+is_valid_change (variable_bound v q) = true
+
+-- What a heap's fields keep: the steps are the latest last, variables are counted, below 2 to the power of 32, and what was made was valid.
 pub record IsKept (steps : List Step) (cells : List Cell) (n : ℕ) : Type 0 where
   pub kept : AreKept (reverse steps) cells
   pub count : n ≡ (state (changes_of steps cells)).created
+  pub few : n < 2 ^ 32
+  pub valid : list_all is_valid_change (changes_of steps cells) ≡ true
 
 -- a cell that isn't bound
 abbrev pub IsEnd : Cell → Type 0

@@ -1,9 +1,10 @@
 //! A heap, its marks and its constructors.
 ghost use Rattle.std.specs.Prelude.{◌≡◌, ◌+◌, ◌-◌, ◌<◌, ◌≤◌, ◌∷◌, [], ◌++◌, ℕ, length, drop, map, IfOk, OnOk, OnErr, IsTrue, ◌↔◌, slice_index};
 ghost use Rattle.ml_term.specs.Tree.{variable, integer, atom, compound, trees_of};
+ghost use Rattle.ml_term.specs.Valid.{is_in_range, is_valid};
 ghost use Rattle.ml_heap.specs.declared.cell.Step.TheVariants.{Made};
 ghost use Rattle.ml_heap.specs.Changes.{Changes, trees, cell_count, variable_count, stands_for, heap_of_mark, KeepsMarks, HasOneMore, MayBeBound, bound_in, IsVariable, number, arguments_of, tree_in};
-ghost use Rattle.ml_heap.specs.Looks.{Shows};
+ghost use Rattle.ml_heap.specs.Looks.{Shows, Tells};
 
 use crate::cell::{Cell, Step};
 use crate::links::{are_ground, end_of, places_of, undo_step};
@@ -74,8 +75,9 @@ impl Heap {
         Ok(at)
     }
 
-    /// A cell that stands for an integer. All other cells stay.
+    /// A cell that stands for an integer from -2305843009213693952 to 2305843009213693951. All other cells stay.
     pub fn new_int(&mut self, v: i64) -> Result<Ref, AllocError>
+        requires { IsTrue (is_in_range v) }
         ensures made { IfOk result (λ r. HasOneMore self.old self.new r (integer v)) }
         ensures counted { variable_count self.new ≡ variable_count self.old }
         ensures refused { OnErr result (self.new ≡ self.old) }
@@ -118,7 +120,8 @@ impl Heap {
     /// What the cell stands for, past bindings. It takes no memory.
     pub fn look(&self, at: Ref) -> Look<'_>
         requires { at < cell_count self.now }
-        ensures { Shows self.now (stands_for self.now at) result }
+        ensures shown { Shows self.now (stands_for self.now at) result }
+        ensures valid { IsTrue (is_valid (stands_for self.now at)) }
     {
         let end = end_of(&self.cells, at.place());
         match &self.cells[end] {
@@ -144,8 +147,25 @@ impl Heap {
         }
     }
 
+    /// The cell at the end of a cell's bindings, by its name and itself. It takes no memory.
+    pub(crate) fn end_at(&self, at: Ref) -> (Ref, &Cell)
+        requires { at < cell_count self.now }
+        ensures inside { result.0 < cell_count self.now }
+        ensures same { stands_for self.now result.0 ≡ stands_for self.now at }
+        ensures told { Tells self.now (stands_for self.now at) result.1.now }
+        ensures valid { IsTrue (is_valid (stands_for self.now at)) }
+    {
+        let end = end_of(&self.cells, at.place());
+        (Ref::at(end), &self.cells[end])
+    }
+
+    /// The allocator that the heap was made with.
+    pub(crate) fn allocator(&self) -> Global {
+        self.alloc
+    }
+
     /// The number of an unbound variable. It takes no memory.
-    fn number_at(&self, at: Ref) -> u32
+    pub(crate) fn number_at(&self, at: Ref) -> u32
         requires inside { at < cell_count self.now }
         requires unbound { IsVariable (stands_for self.now at) }
         ensures { result ≡ number (stands_for self.now at) }

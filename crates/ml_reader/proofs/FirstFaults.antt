@@ -81,7 +81,7 @@ module _ (bytes : List ℕ) (stand : Stand bytes) {xs : List Lexeme} {c : Contex
       let p : c.last ≡ k.token.from = ap (λ c. c.last) k.behind_it ∙ behind_last bytes k.context k.token k.next.some in
       let q = deep_path s y d in
       let w : Wants true (k.front ++ lexeme bytes k.context k.token ∷ y ∷ []) (y ∷ []) q.levels =
-            subst (λ l. Wants true l (y ∷ []) q.levels) (ap (λ l. l ++ y ∷ []) k.whole ∙ append_assoc k.front (lexeme bytes k.context k.token ∷ []) (y ∷ [])) (wants_before xs y [] q.levels s r.parsed q.path) in
+      subst (λ l. Wants true l (y ∷ []) q.levels) (ap (λ l. l ++ y ∷ []) k.whole ∙ append_assoc k.front (lexeme bytes k.context k.token ∷ []) (y ∷ [])) (wants_before xs y [] q.levels s r.parsed q.path) in
       let o : AreOpen bytes k.front k.context k.token q.levels = record { following = y; may = subst (λ c. MayBeNext bytes c y) k.behind_it may; wants = w } in
       let h : HasFault bytes k.token.from (fault TooDeep k.token.from) = record { tokens = k.front; context = k.context; before = k.before; viable = front_viable k; there = too_deep k.next o q.many } in
       record { met = c.last; there = subst (λ n. HasFault bytes n (fault TooDeep n)) (sym p) h; first = λ other g i. others l.near other g (where_met bytes stand r i) }

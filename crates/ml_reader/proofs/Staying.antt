@@ -106,26 +106,26 @@ mutual
       back_word w fs (let e = no_level w refl in omega arith) (kept (record { levels = tt; moderate = refl; alone = and_right (nat_le INTEGER_OFFSET n) false refl }) refl k)
   stays (in_braces {xs = xs} {p = p} {t = t} d l) fs ec l' s m v k =
       kept (fine_want fs brace (omega arith) refl refl) refl (back_brace xs fs (begins d)
-        (stays d (braces ▹ fs) refl l (by_end refl refl) (omega arith) (only_valid braces_name t v) (kept (record { levels = tt; moderate = refl; alone = refl }) refl k)))
+      (stays d (braces ▹ fs) refl l (by_end refl refl) (omega arith) (only_valid braces_name t v) (kept (record { levels = tt; moderate = refl; alone = refl }) refl k)))
   stays (an_atom {c = c} {m = m} {f = f} {ys = ys} w a) fs ec l s n v k = back_word w fs (omega arith) (back_atom c m f ys fs a s k)
   stays (a_compound {m = m} {f = f} {ts = ts} w ds) fs ec l s n v k =
       back_word w fs (let o = one_level w in omega arith) (kept (record { levels = tt; moderate = refl; alone = refl }) refl
-        (arguments_stay ds f no_trees fs (omega arith) (let a = few_arguments f ts v in omega arith) (valid_arguments f ts v) k))
+      (arguments_stay ds f no_trees fs (omega arith) (let a = few_arguments f ts v in omega arith) (valid_arguments f ts v) k))
   stays (in_parens {k = j} {p = p} {t = t} d l) fs ec l' s m v k =
       kept (fine_want fs (paren j) (omega arith) refl refl) refl (stays d (parens ▹ fs) refl l (by_end refl refl) (omega arith) v (kept (record { levels = tt; moderate = refl; alone = refl }) refl k))
   stays (a_list {xs = xs} ds) fs ec l s m v k =
       kept (fine_want fs bracket (omega arith) refl refl) refl (back_fresh xs fs (elements_begin ds) (elements_stay ds no_trees fs (omega arith) v k))
   stays (a_prefix {c = c} {m = m} {f = f} {ys = ys} {zs = zs} {o = o} {p = p} {t = t} w e n d l) fs ec l' s i v k =
       back_word w fs (let j = one_level w in omega arith) (back_prefix m f o ys fs e n (begins d) l'
-        (stays d (before f o ▹ fs) ec l (follows_lower c o.priority p zs (let a = fit p o.right l in let r = right_within o (prefix_lawful f o e) in omega arith) s) (omega arith) (only_valid f t v)
-          (back_before c f o p t fs zs ec e s k)))
+      (stays d (before f o ▹ fs) ec l (follows_lower c o.priority p zs (let a = fit p o.right l in let r = right_within o (prefix_lawful f o e) in omega arith) s) (omega arith) (only_valid f t v)
+      (back_before c f o p t fs zs ec e s k)))
   stays (an_infix {c = c} {x = x} {ys = ys} {zs = zs} {o = o} {p = p} {q = q} {t = t} {u = u} d e l d' l') fs ec h' s m v k =
       let law = infix_lawful c x o e in
       let p_fits : IsTrue (fits true p (limit fs)) = fit_again p (limit fs) (let a = fit p o.left l in let r = left_within o law in let g = fit o.priority (limit fs) h' in omega arith) in
       let one : step true (have p t fs) x ≡ Ok (want (between o t ▹ fs)) = ap (λ m. had_as true m x p t fs) (ap (λ c. infix_at c x) ec ∙ e) ∙ place o p t fs l h' in
       let k' = stays d' (between o t ▹ fs) ec l' (follows_lower c o.priority q zs (let a = fit q o.right l' in let r = right_within o law in omega arith) s) (omega arith) (right_valid o.name t u v) (back_between c x o t q u fs zs ec e s k) in
       stays d fs ec p_fits (by_infix e (fit p o.left l)) (omega arith) (left_valid o.name t u v)
-        (kept (record { levels = tt; moderate = subst (λ n. IsTrue (is_moderate n)) (sym one) refl; alone = operator_alone c x o p t fs e }) one k')
+      (kept (record { levels = tt; moderate = subst (λ n. IsTrue (is_moderate n)) (sym one) refl; alone = operator_alone c x o p t fs e }) one k')
 
   arguments_stay : {xs ys : List Lexeme} {us : Trees} → (ds : Arguments true xs ys us) → (f : List ℕ) (ts : Trees) (fs : Stack) → deepest_arguments ds + (1 + depth fs) ≤ MOST_LEVELS → arity ts + arity us ≤ 255
       → IsTrue (are_valid us) → Kept (have 0 (compound f (onto ts us)) fs) ys → Kept (want (arguments f ts ▹ fs)) xs
@@ -135,7 +135,7 @@ mutual
       let some = some_arguments ds in
       let k' = arguments_stay ds f (tree t ts) fs (omega arith) (omega arith) (second_of (is_valid t) _ v) k in
       stays d (arguments f ts ▹ fs) refl l (by_end refl refl) (omega arith) (first_of (is_valid t) _ v)
-        (kept (record { levels = tt; moderate = le-leb (arity (tree t ts)) 254 (omega arith); alone = refl }) refl k')
+      (kept (record { levels = tt; moderate = le-leb (arity (tree t ts)) 254 (omega arith); alone = refl }) refl k')
 
   elements_stay : {xs ys : List Lexeme} {u : Tree} → (ds : Elements true xs ys u) → (ts : Trees) (fs : Stack) → deepest_elements ds + (1 + depth fs) ≤ MOST_LEVELS → IsTrue (is_valid u)
       → Kept (have 0 (cells ts u) fs) ys → Kept (want (elements ts ▹ fs)) xs

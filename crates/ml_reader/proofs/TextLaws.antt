@@ -10,6 +10,7 @@ use Rattle.ml_reader.specs.Lexemes.{Written, Mark, Lexeme, end, turned_onto}
 use Rattle.ml_reader.specs.Tokens.{Context, lexeme, behind, nothing_before, GoesOn, no_token, a_token, Ends, the_end, one_more_token}
 use Rattle.ml_reader.specs.Grammar.{IsText}
 use Rattle.ml_reader.specs.Parser.{root, State, want}
+use Rattle.ml_reader.specs.Reading.{Reads}
 use Rattle.ml_reader.specs.Texts.{IsRead}
 use Rattle.ml_reader.specs.Turns.{Turned, on, whole, wrong, turned}
 use Rattle.ml_reader.specs.Faults.{kind_of, fault, rank, IsNext, FaultBehind, bad_token, too_deep, many_arguments, long_clause, large_number, clash, unexpected, cut_off, many_nodes, HasFault, HasFirstFault}
@@ -45,7 +46,7 @@ module _ (bytes : List ℕ) where
   at_the_end (one_more_token t e k ds) = let h = at_the_end ds in record { context = h.context; goes = a_token t e k h.goes; token = h.token; found = h.found; is_end = h.is_end }
 
   -- the tokens up to the end of a text are one list
-  only_tokens : {c : Context} {xs ys : List Lexeme} → Ends bytes c xs → Ends bytes c ys → xs ≡ ys
+  pub only_tokens : {c : Context} {xs ys : List Lexeme} → Ends bytes c xs → Ends bytes c ys → xs ≡ ys
   only_tokens (the_end t e k) (the_end u f l) = refl
   only_tokens (the_end t e k) (one_more_token u f l ds) = absurd (l (subst (λ t. t.kind ≡ Eof) (same_token (sym e ∙ f)) k))
   only_tokens (one_more_token u f l ds) (the_end t e k) = absurd (l (subst (λ t. t.kind ≡ Eof) (same_token (sym e ∙ f)) k))
@@ -53,9 +54,13 @@ module _ (bytes : List ℕ) where
       let i = same_token (sym e ∙ f) in
       ap (λ l. lexeme bytes c t ∷ l) (only_tokens ds (subst (λ t. Ends bytes (behind bytes c t) ys) (sym i) es)) ∙ ap (λ t. lexeme bytes c t ∷ ys) i
 
+  -- a text has at most one list of clauses, the limits aside
+  pub only_reading : (cs ds : List Written) → Reads bytes cs → Reads bytes ds → cs ≡ ds
+  only_reading cs ds r s = only_clauses s.tokens cs ds (subst (λ xs. IsText true xs cs) (only_tokens r.whole s.whole) r.text) s.text
+
   -- a text has at most one list of clauses
   pub read_once : (cs ds : List Written) → IsRead bytes cs → IsRead bytes ds → cs ≡ ds
-  read_once cs ds r s = only_clauses s.tokens cs ds (subst (λ xs. IsText true xs cs) (only_tokens r.whole s.whole) r.text) s.text
+  read_once cs ds r s = only_reading cs ds (record { tokens = r.tokens; whole = r.whole; text = r.text }) (record { tokens = s.tokens; whole = s.whole; text = s.text })
 
   module _ (stand : Stand bytes) where
     -- a text that was taken whole within the limits is read

@@ -190,8 +190,8 @@ module _ (bytes : List ℕ) (stand : Stand bytes) {xs : List Lexeme} {c : Contex
         if_cases Said (nat_le MOST_TOKENS c.tokens) (fault_at ClauseTooLong t.from) _
         (λ e. first (fault ClauseTooLong t.from) (refused_ranks k i 8 (λ l. omega arith) (λ l. omega arith) (λ l. omega arith) (omega arith)) (long_clause n (leb-true MOST_TOKENS c.tokens e)))
         (λ e. if_cases Said (is_lone s (lexeme bytes c t)) (fault_at NumberTooLarge t.from) (fault_at f t.from)
-          (λ a. first (fault NumberTooLarge t.from) (refused_ranks k i 9 (λ l. absurd (no_long e l)) (λ l. omega arith) (λ l. omega arith) (omega arith)) (large_here a))
-          (λ a. h a e))
+        (λ a. first (fault NumberTooLarge t.from) (refused_ranks k i 9 (λ l. absurd (no_long e l)) (λ l. omega arith) (λ l. omega arith) (omega arith)) (large_here a))
+        (λ a. h a e))
 
     -- the parser refuses it
     err_said : (k : Fault) → step true s (lexeme bytes c t) ≡ Err k → Said (checked (here_at c t) (is_lone s (lexeme bytes c t)) (few (Err k)))
@@ -325,7 +325,7 @@ module _ (bytes : List ℕ) (stand : Stand bytes) {xs : List Lexeme} {c : Contex
         → HasFirstFault bytes (fault TooManyNodes w.place)
     nodes_said w cs i j e a l =
         let text : IsText true (xs ++ end j.0 ∷ []) (turned_onto cs [] ++ w ∷ []) =
-              subst (λ x. IsText true (xs ++ x ∷ []) (turned_onto cs [] ++ w ∷ [])) j.1 (subst (λ l. IsText true (xs ++ lexeme bytes c t ∷ []) l) (turned_before cs (w ∷ [])) (sound true (xs ++ lexeme bytes c t ∷ []) (w ∷ cs) (read_on i))) in
+        subst (λ x. IsText true (xs ++ x ∷ []) (turned_onto cs [] ++ w ∷ [])) j.1 (subst (λ l. IsText true (xs ++ lexeme bytes c t ∷ []) l) (turned_before cs (w ∷ [])) (sound true (xs ++ lexeme bytes c t ∷ []) (w ∷ cs) (read_on i))) in
         first (fault TooManyNodes w.place)
         (taken_ranks i 12 (λ ls o h. absurd (true≢false (sym (few_behind i (omega arith) ls o h).deep))) (λ b. absurd (true≢false (sym b))) (λ b. absurd (no_long e b)) (λ b. absurd (true≢false (sym b ∙ a))) (omega arith))
         (many_nodes (turned_onto cs []) w n j.1 text l)
@@ -354,15 +354,15 @@ module _ (bytes : List ℕ) (stand : Stand bytes) {xs : List Lexeme} {c : Contex
         if_cases Said (nat_lt MOST_LEVELS (levels s')) (fault_at TooDeep t.from) _
         (λ d. let y = some_next bytes (behind bytes c t) in let q = many_levels s' y.0 (ltb-true MOST_LEVELS (levels s') d) in deep_said s' i y.0 y.1 q.0 q.1 q.2)
         (λ d. let l = ltb-false MOST_LEVELS (levels s') d in
-          if_cases Said (nat_le MOST_TOKENS c.tokens) (too_many (here_at c t) s') _
-          (λ e. if_cases Said (name_too_deep s') (late s') (fault_at ClauseTooLong t.from)
-            (λ k. late_said s' i m l e k)
-            (λ k. long_said s' i m e (λ ls o h. true≢false (sym (few_behind i l ls o h).deep ∙ k))))
-          (λ e. if_cases Said (is_lone s (lexeme bytes c t)) (fault_at NumberTooLarge t.from) (sized s')
-            (λ a. first (fault NumberTooLarge t.from)
-              (taken_ranks i 9 (λ ls o h. absurd (no_name s' a (low_behind i) (few_behind i l ls o h).deep)) (λ b. absurd (true≢false (sym b ∙ m))) (λ b. absurd (no_long e b)) (λ b. omega arith) (omega arith))
-              (large_here a))
-            (λ a. sized_said s' i j m l e a)))
+        if_cases Said (nat_le MOST_TOKENS c.tokens) (too_many (here_at c t) s') _
+        (λ e. if_cases Said (name_too_deep s') (late s') (fault_at ClauseTooLong t.from)
+        (λ k. late_said s' i m l e k)
+        (λ k. long_said s' i m e (λ ls o h. true≢false (sym (few_behind i l ls o h).deep ∙ k))))
+        (λ e. if_cases Said (is_lone s (lexeme bytes c t)) (fault_at NumberTooLarge t.from) (sized s')
+        (λ a. first (fault NumberTooLarge t.from)
+        (taken_ranks i 9 (λ ls o h. absurd (no_name s' a (low_behind i) (few_behind i l ls o h).deep)) (λ b. absurd (true≢false (sym b ∙ m))) (λ b. absurd (no_long e b)) (λ b. omega arith) (omega arith))
+        (large_here a))
+        (λ a. sized_said s' i j m l e a)))
 
     step_said : (q : Next) → step true s (lexeme bytes c t) ≡ q → EndsClause (lexeme bytes c t) q → Said (checked (here_at c t) (is_lone s (lexeme bytes c t)) (few q))
     step_said (Err k) i j = err_said k i
@@ -379,8 +379,8 @@ module _ (bytes : List ℕ) (stand : Stand bytes) {xs : List Lexeme} {c : Contex
       if_cases Says (name_too_deep s) (wrong (fault TooDeep c.last)) _
       (λ e. deep_first bytes stand r (unknown 0) (at_end t h k) (deep_before_variable s e))
       (λ e. if_cases Says (is_between s) whole (wrong (fault Unexpected (length bytes)))
-        (λ b. between s b refl)
-        (λ b. end_first bytes stand r t h k e (no_text_yet xs s r.parsed (λ cs i. true≢false (sym (ap is_between i) ∙ b)))))
+      (λ b. between s b refl)
+      (λ b. end_first bytes stand r t h k e (no_text_yet xs s r.parsed (λ cs i. true≢false (sym (ap is_between i) ∙ b)))))
     where
       between : (s' : State) → is_between s' ≡ true → s ≡ s' → Says whole
       between (want (root cs)) b e = (cs, t, e, h, k)

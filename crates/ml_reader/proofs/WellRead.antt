@@ -63,8 +63,7 @@ module _ (bytes : List ℕ) (stand : Stand bytes) where
 
   pass : {us : List ℕ} {x : Lexeme} {xs : List Lexeme} {c : Context} → Going c us (x ∷ xs) → IsPlain x → (d : Context) × Going d us xs
   pass {us} {x} {xs} {c} g p =
-      let f = first_of_ends g.ends in
-      (
+      let f = first_of_ends g.ends in (
         behind bytes c f.token,
         record { ends = f.rest; numbered = plain_kind f.token.kind c f.token us f.next.some g.numbered (subst IsPlain f.is p); within = within_behind g.within f.next },
       )
@@ -171,8 +170,7 @@ module _ (bytes : List ℕ) (stand : Stand bytes) where
       let f = first_of_ends h.1.ends in
       let e = end_kind f.token.kind h.0 f.token (variables t) m f.is h.1.numbered in
       let n : m.names ≡ h.0.names = ap (λ m. m.names) e.0 in
-      let k = h.1.numbered in
-      (
+      let k = h.1.numbered in (
         record {
           numbered = k.counting;
           of_term = subst (λ ns. IsTrue (list_all (λ n. has n.1 (variables t)) ns)) (sym n) k.of_term;
@@ -189,8 +187,7 @@ module _ (bytes : List ℕ) (stand : Stand bytes) where
   all_well : (cs : List Written) → AllByRecursion IsNumbered cs → IsTrue (list_all (λ w. is_valid w.term) cs) → IsTrue (list_all (λ w. nat_le (nodes w.term) MOST_NODES) cs) → AllByRecursion IsWellRead cs
   all_well [] h v s = tt
   all_well (w ∷ cs) h v s =
-      let k = h.0 in
-      (
+      let k = h.0 in (
         record {
           valid = first_of (is_valid w.term) _ v;
           small = leb-true (nodes w.term) MOST_NODES (first_of (nat_le (nodes w.term) MOST_NODES) _ s);

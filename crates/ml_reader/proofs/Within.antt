@@ -131,7 +131,7 @@ mutual
       record { levels = let m = g.levels in omega arith; valid = g.valid }
   within (a_prefix {c = c} {m = m} {f = f} {xs = xs} {ys = ys} {zs = zs} {o = o} {p = p} {t = t} w e n d l) fs ec l' s h =
       let g = within d (before f o ▹ fs) ec l (follows_lower c o.priority p zs (let a = fit p o.right l in let r = right_within o (prefix_lawful f o e) in omega arith) s)
-            (C.carry_prefix Keeps keeps_forward keeps_alike m f o xs ys fs w e n (begins d) l' h) in
+      (C.carry_prefix Keeps keeps_forward keeps_alike m f o xs ys fs w e n (begins d) l' h) in
       record { levels = let k = g.levels in omega arith; valid = one_valid f t (word_name w h.1) g.valid }
   within (an_infix {c = c} {x = x} {ys = ys} {zs = zs} {o = o} {p = p} {q = q} {t = t} {u = u} d e l d' l') fs ec h' s h =
       let law = infix_lawful c x o e in
@@ -140,7 +140,7 @@ mutual
       let g = within d fs ec p_fits takes h in
       let k = C.carry Keeps keeps_forward keeps_alike d fs ec p_fits takes h in
       let g' = within d' (between o t ▹ fs) ec l' (follows_lower c o.priority q zs (let a = fit q o.right l' in let r = right_within o law in omega arith) s)
-            (C.carry_on Keeps keeps_forward keeps_alike (have p t fs) (want (between o t ▹ fs)) x ys (begins d') (ap (λ m. had_as true m x p t fs) (ap (λ c. infix_at c x) ec ∙ e) ∙ place o p t fs l h') k) in
+      (C.carry_on Keeps keeps_forward keeps_alike (have p t fs) (want (between o t ▹ fs)) x ys (begins d') (ap (λ m. had_as true m x p t fs) (ap (λ c. infix_at c x) ec ∙ e) ∙ place o p t fs l h') k) in
       record { levels = let a = g.levels in let b = g'.levels in omega arith; valid = two_valid o.name t u (operator_name c x o e k.1.0) g.valid g'.valid }
 
   arguments_within : {xs ys : List Lexeme} {us : Trees} → (ds : Arguments true xs ys us) → (f : List ℕ) (ts : Trees) (fs : Stack) → arity ts ≤ 254 → Keeps (want (arguments f ts ▹ fs)) xs

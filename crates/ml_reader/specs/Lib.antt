@@ -7,6 +7,7 @@ pub mod Seen
 pub mod Frames
 pub mod Rows
 pub mod Tokens
+pub mod Reading
 pub mod ContextSeen
 pub mod Limits
 pub mod LimitsSeen
@@ -15,3 +16,16 @@ pub mod Texts
 pub mod Faults
 pub mod Turns
 pub mod TurnsSeen
+pub mod Scripts
+pub mod ScriptTexts
+pub mod ScriptItems
+pub mod ScriptSeen
+pub mod ScriptRows
+pub mod Forms
+pub mod Declarations
+pub mod Rules
+pub mod FormsSeen
+pub mod DeclarationSteps
+pub mod PartsSeen
+pub mod ItemsSeen
+pub mod RulesSteps

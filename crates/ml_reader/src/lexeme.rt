@@ -44,6 +44,14 @@ impl Names {
     {
         self.pairs.as_slice()
     }
+
+    /// The pairs as a vector. It takes no memory.
+    pub fn into_vec(self) -> Vec<(Name, u32)>
+        ensures { result.items ≡ self }
+    {
+        let Names { pairs } = self;
+        pairs
+    }
 }
 
 /// What the tokens of a clause tell of it: the names of its variables but `_`, and the place of its first token.

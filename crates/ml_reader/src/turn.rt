@@ -109,7 +109,12 @@ fn at_fault(context: &Context, state: &State, fault: TokenFault) -> Turn
 }
 
 /// Whether what stands behind a name makes no atom or functor of it, if it is an operator.
-fn stays_open(alloc: Global, bytes: &[u8], context: Context, state: &State) -> Result<bool, AllocError>
+fn stays_open(
+    alloc: Global,
+    bytes: &[u8],
+    context: Context,
+    state: &State,
+) -> Result<bool, AllocError>
     requires within { context.to ≤ length bytes.now }
     requires counts { IsWithin (context_seen context) }
     requires short { length bytes.now < 2 ^ 32 }
@@ -128,7 +133,12 @@ fn stays_open(alloc: Global, bytes: &[u8], context: Context, state: &State) -> R
 }
 
 /// The fault of a name that is one token too many, and that would open a level past the limit.
-fn late(alloc: Global, bytes: &[u8], context: Context, state: &State) -> Result<ReadFault, AllocError>
+fn late(
+    alloc: Global,
+    bytes: &[u8],
+    context: Context,
+    state: &State,
+) -> Result<ReadFault, AllocError>
     requires within { context.to ≤ length bytes.now }
     requires counts { IsWithin (context_seen context) }
     requires short { length bytes.now < 2 ^ 32 }
@@ -172,7 +182,12 @@ fn take(
 }
 
 /// One turn: the next token is taken, or the text ends, or its first fault is met.
-pub fn next_turn(alloc: Global, bytes: &[u8], context: Context, state: State) -> Result<Turn, AllocError>
+pub fn next_turn(
+    alloc: Global,
+    bytes: &[u8],
+    context: Context,
+    state: State,
+) -> Result<Turn, AllocError>
     requires within { context.to ≤ length bytes.now }
     requires counts { IsWithin (context_seen context) }
     requires short { length bytes.now < 2 ^ 32 }

@@ -1,62 +1,101 @@
 -- The block of the session over what two files hold is its printed history.
-use Rattle.std.proofs.Common.{◌≡◌, ◌∷◌, [], refl, sym, ◌∙◌, subst, ◌≤◌, ◌&&◌, not, nat_le, Bool, true, false, ℕ, List, Option, length, arith}
-use Rattle.std.specs.List.{All, list_all}
+use Rattle.std.proofs.Common.{◌≡◌, ◌∷◌, [], refl, sym, ap, ◌∙◌, subst, ◌≤◌, not, Bool, true, false, ℕ, List, Option, Some, length, arith}
 use Rattle.std.proofs.Math.Seq.{take-length}
-use Rattle.std.proofs.lemmas.Bool.Decides.{nat_tests}
-use Rattle.std.proofs.lemmas.List.Elements.{All-weaker}
-use Rattle.ml_term.specs.Names.{is_name, is_name_byte}
-use Rattle.ml_search.specs.Known.{is_reserved}
+use Rattle.std.proofs.lemmas.List.{length-map}
+use Rattle.ml_term.specs.Tree.{Tree, trees_of, arity, nodes}
+use Rattle.ml_term.specs.declared.declaration.Decl.{Decl}
+use Rattle.ml_term.proofs.Columns.{and_second}
+use Rattle.ml_search.specs.Program.{Goal}
+use Rattle.ml_search.specs.Known.{is_reserved, declared_known}
+use Rattle.ml_search.specs.Table.{declared, as_tuple}
+use Rattle.ml_search.specs.Loading.{in_key_order}
 use Rattle.ml_search.specs.History.{history}
 use Rattle.ml_search.specs.Printed.{printed}
 use Rattle.ml_outside.specs.Held.{Files}
 use Rattle.ml_outside.specs.Written.{Appended, AppendedFront}
-use Rattle.ml_run.specs.declared.form.argument.Argument.{Argument}
-use Rattle.ml_run.specs.declared.form.argument.Argument.TheVariants.{Variable, Number}
-use Rattle.ml_run.specs.form.Classes.{IsSmall}
-use Rattle.ml_run.specs.form.Grammar.{is_among, operators, IsWithinLimit}
+use Rattle.ml_run.specs.Plain.{is_flat_call}
+use Rattle.ml_run.specs.form.Tokens.{Lexeme}
+use Rattle.ml_run.specs.form.Arguments.{is_among, operators}
+use Rattle.ml_run.specs.form.Terms.{unnumbered, terms_from, call_term}
+use Rattle.ml_run.specs.form.Grammar.{AreRules, IsGoal}
 use Rattle.ml_run.specs.Texts.{HoldsRules, HoldsScript}
 use Rattle.ml_run.specs.Inputs.{program_of, lists_of, script_of}
-use Rattle.ml_run.specs.Numbers.{in_order, block_text}
+use Rattle.ml_run.specs.Answering.{answers, block_text}
 use Rattle.ml_run.specs.Prints.{Printed}
-use Rattle.ml_run.proofs.Writing.{IsWord, IsShort}
-use Rattle.ml_run.proofs.Loading.{small_all, length_all, items_are}
-use Rattle.ml_run.proofs.Printing.{printed_is}
-
-both_hold : (a b : Bool) → (a && b) ≡ true → (a ≡ true) × (b ≡ true)
-both_hold true b e = (refl, e)
-both_hold false b e = cc
+use Rattle.ml_run.proofs.Members.{Has}
+use Rattle.ml_run.proofs.Rising.{all_has}
+use Rattle.ml_run.proofs.Tokens.{some_arity, two_at_most}
+use Rattle.ml_run.proofs.Facts.{arity_of_terms}
+use Rattle.ml_run.proofs.Shapes.{IsFactTerm, fact_terms, names_named, few_names, call_nodes}
+use Rattle.ml_run.proofs.Lengths.{AreNamed, lines_short, fewer_answers}
+use Rattle.ml_run.proofs.Spelling.{goal_is_flat}
+use Rattle.ml_run.proofs.Loading.{items_are, is_declared, fewer_in_order, all_ground}
+use Rattle.ml_run.proofs.Finding.{asked_is}
+use Rattle.ml_run.proofs.Blocks.{printed_is}
 
 not_so : (b : Bool) → not b ≡ true → b ≡ false
 not_so true e = cc
 not_so false e = refl
 
-name_short : (f : List ℕ) → is_name f ≡ true → length f ≤ 255
-name_short f e = let test : nat_le (length f) 255 ≡ true = (both_hold (nat_le (length f) 255) (list_all is_name_byte f) e).0 in grind (arith, nat_tests)
+-- what rules and a goal of their relation print
+module _ (tokens others : List Lexeme) (d : Decl) (facts : List Tree) (g : Goal) (r : AreRules tokens d facts) (s : IsGoal others d.pred.name d.pred.arity g) where
+  is_fact : (t : Tree) → Has t facts → IsFactTerm t
+  is_fact t h = fact_terms d.pred.name d.pred.arity r.facts_are.given r.facts_are.spelled.each t (subst (Has t) r.facts_are.terms h)
 
-short_argument : (argument : Argument) → IsWithinLimit argument → IsShort argument
-short_argument (Variable name) h = name_short name h
-short_argument (Number n) h = tt
+  is_tuple : (t : Tree) → Has t (in_key_order d.keys facts) → IsFactTerm t
+  is_tuple t h = is_fact t (all_has d.keys facts t h)
+
+  as_many : length s.given ≡ d.pred.arity
+  as_many = s.each.as_many
+
+  term_is : g.term ≡ call_term d.pred.name s.given
+  term_is = ap (λ h. h.term) s.goal
+
+  small : d.pred.arity ≤ 2
+  small = two_at_most d.pred.arity r.declared.arity
+
+  named : AreNamed g
+  named = subst AreNamed (sym s.goal) (λ e h. names_named d.pred.name s.given e s.each.within h)
+
+  few_named : length g.names ≤ 2
+  few_named = omega (arith, ap (λ h. length h.names) s.goal, few_names unnumbered s.given, as_many, small)
+
+  flat : is_flat_call g.term ≡ true
+  flat = goal_is_flat g.term d.pred.name s.given term_is s.each.within
+
+  free : is_reserved d.pred.name d.pred.arity ≡ false
+  free = not_so (is_reserved d.pred.name d.pred.arity) (and_second (not (is_among operators d.pred.name)) (not (is_reserved d.pred.name d.pred.arity)) r.declared.free)
+
+  few_facts : length facts ≤ 1000
+  few_facts = omega (arith, r.facts_are.spelled.few, ap length r.facts_are.terms, length-map r.facts_are.given (call_term d.pred.name))
+
+  few_found : length (answers g (in_key_order d.keys facts)) ≤ 1000
+  few_found = omega (arith, fewer_answers g (in_key_order d.keys facts), fewer_in_order d.keys facts, few_facts)
+
+  pub prints : printed (history (program_of d) (lists_of d facts) (script_of g ∷ []) ((1, false) ∷ [])).0 ≡ block_text g (answers g (in_key_order d.keys facts))
+  prints =
+      let ts = trees_of (terms_from unnumbered s.given) in
+      let size : arity ts ≡ d.pred.arity = arity_of_terms unnumbered s.given ∙ as_many in
+      let some : 1 ≤ arity ts = omega (arith, size, some_arity d.pred.arity r.declared.arity) in
+      let count : nodes (call_term d.pred.name s.given) ≤ 4096 = omega (arith, call_nodes d.pred.name s.given, as_many, small) in
+      printed_is 1040 20000 (program_of d) g (lists_of d facts) (answers g (in_key_order d.keys facts)) _
+      (asked_is (program_of d) g d.pred.name ts 0 (record { db = lists_of d facts; made = [] }) (in_key_order d.keys facts) 19999 term_is some
+      (subst (λ n. is_reserved d.pred.name n ≡ false) (sym size) free)
+      (subst (λ n. declared_known (program_of d) d.pred.name n ≡ Some (declared as_tuple 0)) (sym size) (is_declared d r.declared.kind))
+      count (items_are d facts r.declared.kind) (all_ground (in_key_order d.keys facts) (λ u h. (is_tuple u h).0)) (omega (arith, few_found)))
+      (lines_short g (in_key_order d.keys facts) flat named few_named is_tuple) (omega (arith, few_found))
 
 -- whatever happened to the block happened to the printed history
-pub history_printed : (files : Files) (rules script name facts : List ℕ) (argument : Argument) → HoldsRules files rules name facts → HoldsScript files script name argument
-    → printed (history (program_of name) (lists_of name facts) (script_of name argument ∷ []) ((1, false) ∷ [])).0 ≡ block_text argument (in_order facts)
-history_printed files rules script name facts argument r s =
-    let are = r.2.2 in
-    let free = not_so (is_reserved name 1) (both_hold (not (is_among operators name)) (not (is_reserved name 1)) are.free).1 in
-    let small = small_all facts are.small in
-    let words : All IsWord (in_order facts) = All-weaker IsSmall IsWord (λ n h. omega arith) (in_order facts) small in
-    printed_is name argument (in_order facts) (lists_of name facts) free (short_argument argument s.2.2.within) words (omega (arith, length_all facts, are.few)) (items_are name facts are.small)
-
-pub session_printed : (files : Files) (rules script name facts block : List ℕ) (argument : Argument) (happened : List ℕ → Type 0) → block ≡ block_text argument (in_order facts)
-    → happened block → HoldsRules files rules name facts → HoldsScript files script name argument → Printed files rules script happened
-session_printed files rules script name facts block argument happened e h r s = record {
-  name = name;
+pub session_printed : (files : Files) (rules script : List ℕ) (d : Decl) (facts : List Tree) (g : Goal) (block : List ℕ) (happened : List ℕ → Type 0)
+    → block ≡ block_text g (answers g (in_key_order d.keys facts)) → happened block → HoldsRules files rules d facts → HoldsScript files script d g → Printed files rules script happened
+session_printed files rules script d facts g block happened e h r s = record {
+  decl = d;
   facts = facts;
   rules_read = r;
-  argument = argument;
+  goal = g;
   script_read = s;
   out_of_memory = false;
-  happened_to = subst happened (e ∙ sym (history_printed files rules script name facts argument r s)) h;
+  happened_to = subst happened (e ∙ sym (prints r.2.0 s.2.0 d facts g r.2.2 s.2.2)) h;
 }
 
 -- the whole is a front of itself
@@ -65,10 +104,10 @@ whole_front before after bytes h = (length bytes, omega arith, subst (Appended b
 
 pub printed_front : (files : Files) (rules script : List ℕ) (before after : Option (List ℕ)) → Printed files rules script (Appended before after) → Printed files rules script (AppendedFront before after)
 printed_front files rules script before after p = record {
-  name = p.name;
+  decl = p.decl;
   facts = p.facts;
   rules_read = p.rules_read;
-  argument = p.argument;
+  goal = p.goal;
   script_read = p.script_read;
   out_of_memory = p.out_of_memory;
   happened_to = whole_front before after _ p.happened_to;

@@ -1,5 +1,7 @@
 -- Why a run ended as it did.
 use Rattle.std.specs.Prelude.{◌≡◌, ◌⊎◌, ℕ, List, Option, IfSome}
+use Rattle.ml_term.specs.Tree.{Tree}
+use Rattle.ml_term.specs.declared.declaration.Decl.{Decl}
 use Rattle.ml_outside.specs.Held.{Files}
 use Rattle.ml_outside.specs.Causes.{Rose}
 use Rattle.ml_run.specs.Words.{AreWords, AreBad, NamesFile}
@@ -23,7 +25,7 @@ RefusesFile held words i status = NamesFile words i × IfSome held (λ files. Le
 abbrev pub ReachesFile : Option Files → List (List ℕ) → ℕ → Type 0
 ReachesFile held words i =
     (rules : List ℕ) × (script : List ℕ) × AreWords words rules script
-    × ((i ≡ 1) ⊎ ((i ≡ 2) × IfSome held (λ files. (name : List ℕ) × (facts : List ℕ) × HoldsRules files rules name facts)))
+    × ((i ≡ 1) ⊎ ((i ≡ 2) × IfSome held (λ files. (d : Decl) × (facts : List Tree) × HoldsRules files rules d facts)))
 
 -- when each status comes; for want of memory nothing is said
 abbrev pub IsCaused : Option Files → List (List ℕ) → Counts → Status → Type 0

@@ -3,7 +3,9 @@ use Rattle.std.specs.Prelude.{◌≡◌, ◌⊎◌, ℕ, List, Option, IfSome}
 use Rattle.ml_outside.specs.Held.{Files}
 use Rattle.ml_outside.specs.Causes.{Rose}
 use Rattle.ml_run.specs.Texts.{absent, long, Holds, HoldsRules, HoldsNoRules, HoldsScript, HoldsNoScript}
-use Rattle.ml_run.specs.declared.form.argument.Argument.{Argument}
+use Rattle.ml_term.specs.Tree.{Tree}
+use Rattle.ml_term.specs.declared.declaration.Decl.{Decl}
+use Rattle.ml_search.specs.Program.{Goal}
 use Rattle.ml_run.specs.declared.status.Status.{Status}
 use Rattle.ml_run.specs.declared.status.Status.TheVariants.{NoFile, TooLong, ReadFailed, WriteFailed, OutOfMemory, NotBuilt}
 
@@ -21,9 +23,9 @@ RulesRefused held file before now (NotBuilt i) = (i ≡ 1) × IfSome held (λ fi
 RulesRefused held file before now status = FetchRefused held file 1 before now status
 
 -- why the script isn't had
-abbrev pub ScriptRefused : Option Files → List ℕ → List ℕ → ℕ → ℕ → Status → Type 0
-ScriptRefused held file name before now (NotBuilt i) = (i ≡ 2) × IfSome held (λ files. HoldsNoScript files file name)
-ScriptRefused held file name before now status = FetchRefused held file 2 before now status
+abbrev pub ScriptRefused : Option Files → List ℕ → Decl → ℕ → ℕ → Status → Type 0
+ScriptRefused held file d before now (NotBuilt i) = (i ≡ 2) × IfSome held (λ files. HoldsNoScript files file d)
+ScriptRefused held file d before now status = FetchRefused held file 2 before now status
 
 -- why the output isn't written
 abbrev pub WriteRefused : ℕ → ℕ → Status → Type 0
@@ -35,6 +37,6 @@ WriteRefused before now status = ⊥
 abbrev pub Refused : Option Files → List ℕ → List ℕ → ℕ → ℕ → ℕ → ℕ → Status → Type 0
 Refused held rules script reads reads_now writes writes_now status =
     RulesRefused held rules reads reads_now status
-    ⊎ ((name : List ℕ) × (facts : List ℕ) × IfSome held (λ files. HoldsRules files rules name facts) × ScriptRefused held script name reads reads_now status)
-    ⊎ ((name : List ℕ) × (facts : List ℕ) × (argument : Argument) × IfSome held (λ files. HoldsRules files rules name facts) × IfSome held (λ files. HoldsScript files script name argument)
+    ⊎ ((d : Decl) × (facts : List Tree) × IfSome held (λ files. HoldsRules files rules d facts) × ScriptRefused held script d reads reads_now status)
+    ⊎ ((d : Decl) × (facts : List Tree) × (g : Goal) × IfSome held (λ files. HoldsRules files rules d facts) × IfSome held (λ files. HoldsScript files script d g)
     × WriteRefused writes writes_now status)

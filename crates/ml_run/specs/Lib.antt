@@ -6,5 +6,11 @@ pub mod Outcomes
 pub mod Causes
 pub mod Answers
 pub mod Inputs
-pub mod Numbers
+pub mod Below
+pub mod Matching
+pub mod KeyOrder
+pub mod Answering
+pub mod Plain
+pub mod GoalSeen
+pub mod Relation
 pub mod Prints

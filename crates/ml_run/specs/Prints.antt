@@ -4,7 +4,9 @@ use Rattle.ml_outside.specs.Held.{Files}
 use Rattle.ml_outside.specs.Written.{AppendedFront}
 use Rattle.ml_search.specs.History.{history}
 use Rattle.ml_search.specs.Printed.{printed}
-use Rattle.ml_run.specs.declared.form.argument.Argument.{Argument}
+use Rattle.ml_term.specs.Tree.{Tree}
+use Rattle.ml_term.specs.declared.declaration.Decl.{Decl}
+use Rattle.ml_search.specs.Program.{Goal}
 use Rattle.ml_run.specs.Texts.{HoldsRules, HoldsScript}
 use Rattle.ml_run.specs.Words.{AreWords}
 use Rattle.ml_run.specs.Inputs.{program_of, lists_of, script_of}
@@ -14,13 +16,13 @@ use Rattle.ml_run.specs.declared.status.Status.TheVariants.{Done, WriteFailed}
 -- The printed history of the session of a script over the facts of rules, under the names of two files; `happened` is said of its bytes. The
 -- session may have been entered as out of memory.
 pub record Printed (files : Files) (rules script : List ℕ) (happened : List ℕ → Type 0) : Type 0 where
-  pub name : List ℕ
-  pub facts : List ℕ
-  pub rules_read : HoldsRules files rules name facts
-  pub argument : Argument
-  pub script_read : HoldsScript files script name argument
+  pub decl : Decl
+  pub facts : List Tree
+  pub rules_read : HoldsRules files rules decl facts
+  pub goal : Goal
+  pub script_read : HoldsScript files script decl goal
   pub out_of_memory : Bool
-  pub happened_to : happened (printed (history (program_of name) (lists_of name facts) (script_of name argument ∷ []) ((1, out_of_memory) ∷ [])).0)
+  pub happened_to : happened (printed (history (program_of decl) (lists_of decl facts) (script_of goal ∷ []) ((1, out_of_memory) ∷ [])).0)
 
 -- the same of the files that the words name
 pub record Prints (files : Files) (words : List (List ℕ)) (happened : List ℕ → Type 0) : Type 0 where

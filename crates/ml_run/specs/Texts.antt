@@ -2,7 +2,9 @@
 use Rattle.std.specs.Prelude.{◌≡◌, ◌<◌, ◌≤◌, ℕ, List, length, Some, None}
 use Rattle.std.specs.FinMap as map
 use Rattle.ml_outside.specs.Held.{Files}
-use Rattle.ml_run.specs.declared.form.argument.Argument.{Argument}
+use Rattle.ml_term.specs.Tree.{Tree}
+use Rattle.ml_term.specs.declared.declaration.Decl.{Decl}
+use Rattle.ml_search.specs.Program.{Goal}
 use Rattle.ml_run.specs.form.Grammar.{SpellsRules, SpellsScript}
 
 -- the most bytes of a rules file and of a script
@@ -21,17 +23,17 @@ Holds files name long = (bytes : List ℕ) × (map.get files name ≡ Some bytes
 Holds files name (text bytes) = (map.get files name ≡ Some bytes) × (length bytes ≤ text_limit)
 
 -- a text of rules stands there
-abbrev pub HoldsRules : Files → List ℕ → List ℕ → List ℕ → Type 0
-HoldsRules files file name facts = (bytes : List ℕ) × Holds files file (text bytes) × SpellsRules bytes name facts
+abbrev pub HoldsRules : Files → List ℕ → Decl → List Tree → Type 0
+HoldsRules files file d facts = (bytes : List ℕ) × Holds files file (text bytes) × SpellsRules bytes d facts
 
 -- a text stands there that is no text of rules
 abbrev pub HoldsNoRules : Files → List ℕ → Type 0
-HoldsNoRules files file = (bytes : List ℕ) × Holds files file (text bytes) × ((name facts : List ℕ) → SpellsRules bytes name facts → ⊥)
+HoldsNoRules files file = (bytes : List ℕ) × Holds files file (text bytes) × ((d : Decl) (facts : List Tree) → SpellsRules bytes d facts → ⊥)
 
--- a script of this predicate stands there
-abbrev pub HoldsScript : Files → List ℕ → List ℕ → Argument → Type 0
-HoldsScript files file name argument = (bytes : List ℕ) × Holds files file (text bytes) × SpellsScript bytes name argument
+-- a script of the declared predicate stands there
+abbrev pub HoldsScript : Files → List ℕ → Decl → Goal → Type 0
+HoldsScript files file d g = (bytes : List ℕ) × Holds files file (text bytes) × SpellsScript bytes d g
 
--- a text stands there that is no script of this predicate
-abbrev pub HoldsNoScript : Files → List ℕ → List ℕ → Type 0
-HoldsNoScript files file name = (bytes : List ℕ) × Holds files file (text bytes) × ((argument : Argument) → SpellsScript bytes name argument → ⊥)
+-- a text stands there that is no script of the declared predicate
+abbrev pub HoldsNoScript : Files → List ℕ → Decl → Type 0
+HoldsNoScript files file d = (bytes : List ℕ) × Holds files file (text bytes) × ((g : Goal) → SpellsScript bytes d g → ⊥)

@@ -1,94 +1,81 @@
-// The block of a session of one goal, as it is printed.
-ghost use Rattle.std.specs.Prelude.{◌≡◌, ◌++◌, ◌≤◌, codes, length, OnOk, IfOk};
-ghost use Rattle.std.specs.List.{flat_map};
-ghost use Rattle.ml_search.specs.Session.{is_shown};
-ghost use Rattle.ml_run.specs.Numbers.{meets, met, answer, answer_text, block_text};
+// The block of a session of one goal that is a call of a relation, as it is printed.
+ghost use Rattle.std.specs.Prelude.{◌≡◌, ◌∷◌, [], ◌++◌, ◌≤◌, IsTrue, length, IfOk, OnOk};
+ghost use Rattle.std.specs.List.{All, flat_map};
+ghost use Rattle.ml_term.specs.Seen.{seen};
+ghost use Rattle.ml_search.specs.Session.{answer_line, count_line};
+ghost use Rattle.ml_run.specs.Answering.{answers, block_text};
+ghost use Rattle.ml_run.specs.GoalSeen.{goal_seen};
+ghost use Rattle.ml_run.specs.KeyOrder.{trees};
+ghost use Rattle.ml_run.specs.Plain.{is_flat_call, is_plain_tuple};
 
-use crate::form::Argument;
+use crate::answer::push_answer;
+use crate::goal::Goal;
+use crate::matching::meets;
+use crate::tuple::Tuple;
+use ml_term::Term;
 use std::alloc::{AllocError, Global};
 
-/// The block of the first session, which commits: its goal is a call with this argument of a relation of these numbers.
-pub fn block_of(alloc: Global, argument: &Argument, numbers: &[u64]) -> Result<Vec<u8>, AllocError>
-    ensures { IfOk result (λ bytes. bytes.items ≡ block_text argument.now numbers.now) }
+/// The block of the first session, which commits, and whose goal is a call of the relation of these tuples.
+pub fn block_of(alloc: Global, goal: &Goal, tuples: &[Tuple]) -> Result<Vec<u8>, AllocError>
+    requires flat { IsTrue (is_flat_call (seen goal.now.term)) }
+    requires plain { All (λ t. IsTrue (is_plain_tuple (seen t.term))) tuples.now }
+    ensures { IfOk result (λ bytes. bytes.items ≡ block_text (goal_seen goal.now) (answers (goal_seen goal.now) (trees tuples.now))) }
 {
     let mut out = Vec::new(alloc);
     out.extend_from_slice(b"session 1 committed\ngoal 1\n")?;
-    let count = push_answers(alloc, argument, numbers, &mut out)?;
+    let count = push_answers(alloc, goal, tuples, &mut out)?;
+    push_count(alloc, count, &mut out)?;
+    Ok(out)
+}
+
+// Appends the line that counts the answers.
+fn push_count(alloc: Global, count: u64, out: &mut Vec<u8>) -> Result<(), AllocError>
+    ensures { OnOk result (out.new.items ≡ out.old.items ++ count_line count) }
+{
     out.extend_from_slice(b"  ")?;
     let digits = count.to_string(alloc)?;
     out.extend_from_slice(digits.as_bytes())?;
-    out.extend_from_slice(b" answers\n")?;
-    Ok(out)
+    out.extend_from_slice(b" answers\n")
 }
 
 // Appends a line for each answer, and counts them.
 fn push_answers(
     alloc: Global,
-    argument: &Argument,
-    numbers: &[u64],
+    goal: &Goal,
+    tuples: &[Tuple],
     out: &mut Vec<u8>,
 ) -> Result<u64, AllocError>
-    ensures lines { OnOk result (out.new.items ≡ out.old.items ++ flat_map (answer_text argument.now) (met argument.now numbers.now)) }
-    ensures count { IfOk result (λ count. count ≡ length (met argument.now numbers.now)) }
+    requires flat { IsTrue (is_flat_call (seen goal.now.term)) }
+    requires plain { All (λ t. IsTrue (is_plain_tuple (seen t.term))) tuples.now }
+    ensures lines { OnOk result (out.new.items ≡ out.old.items ++ flat_map (answer_line (goal_seen goal.now)) (answers (goal_seen goal.now) (trees tuples.now))) }
+    ensures count { IfOk result (λ count. count ≡ length (answers (goal_seen goal.now) (trees tuples.now))) }
 {
+    let mut values = vec![in alloc; None; goal.variables]?;
     let mut count = 0;
-    for n in numbers {
-        if meets(argument, *n) {
-            push_answer(alloc, argument, *n, out)?;
-            count += 1;
-        }
+    for tuple in tuples {
+        count += push_if_met(alloc, goal, tuple, &mut values, out)?;
     }
     Ok(count)
 }
 
-// Whether a goal meets the tuple of a number.
-fn meets(argument: &Argument, n: u64) -> bool
-    ensures { result ≡ meets argument.now n }
-{
-    match argument {
-        Argument::Variable(_) => true,
-        Argument::Number(m) => *m == n,
-    }
-}
-
-fn push_answer(
+// Appends the line of the answer that a tuple gives, if it gives one. The answer is how many lines these are.
+fn push_if_met<'t>(
     alloc: Global,
-    argument: &Argument,
-    n: u64,
+    goal: &Goal,
+    tuple: &'t Tuple,
+    values: &mut [Option<&'t Term>],
     out: &mut Vec<u8>,
-) -> Result<(), AllocError>
-    ensures { OnOk result (out.new.items ≡ out.old.items ++ answer_text argument.now n) }
+) -> Result<u64, AllocError>
+    requires flat { IsTrue (is_flat_call (seen goal.now.term)) }
+    requires plain { IsTrue (is_plain_tuple (seen tuple.now.term)) }
+    requires room { length values.old ≡ goal.now.variables }
+    ensures lines { OnOk result (out.new.items ≡ out.old.items ++ flat_map (answer_line (goal_seen goal.now)) (answers (goal_seen goal.now) (seen tuple.now.term ∷ []))) }
+    ensures count { IfOk result (λ count. count ≡ length (answers (goal_seen goal.now) (seen tuple.now.term ∷ []))) }
+    ensures few { IfOk result (λ count. count ≤ 1) }
 {
-    out.extend_from_slice(b"  ")?;
-    show(alloc, argument, n, out)?;
-    out.extend_from_slice(b"\n")
-}
-
-// Appends what an answer shows.
-fn show(alloc: Global, argument: &Argument, n: u64, out: &mut Vec<u8>) -> Result<(), AllocError>
-    ensures { OnOk result (out.new.items ≡ out.old.items ++ answer argument.now n) }
-{
-    match argument {
-        Argument::Variable(name) => {
-            let name = name.as_slice();
-            if !is_shown(name) {
-                return out.extend_from_slice(b"true");
-            }
-            out.extend_from_slice(name)?;
-            out.extend_from_slice(b" = ")?;
-            let digits = n.to_string(alloc)?;
-            out.extend_from_slice(digits.as_bytes())
-        }
-        Argument::Number(_) => out.extend_from_slice(b"true"),
+    if !meets(&goal.term, tuple, values) {
+        return Ok(0);
     }
-}
-
-// A variable is shown unless its name begins with `_`.
-fn is_shown(name: &[u8]) -> bool
-    ensures { result ≡ is_shown (name.now, 0) }
-{
-    match name {
-        [] => true,
-        [b, ..] => *b != b'_',
-    }
+    push_answer(alloc, goal.names.as_slice(), values, out)?;
+    Ok(1)
 }

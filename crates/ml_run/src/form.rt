@@ -1,7 +1,10 @@
 // Reads the texts of this form: rules with one relation and its facts, and scripts with one goal that is a call of it.
 mod argument;
+mod building;
+mod calls;
 mod classes;
 mod names;
+mod numbering;
 mod numbers;
 mod rules;
 mod scan;
@@ -9,8 +12,6 @@ mod script;
 mod steps;
 mod tokens;
 
-pub use argument::Argument;
-pub use numbers::Numbers;
 pub use rules::{Rules, one_reading, read_rules};
 pub use script::{one_goal, read_script};
 pub use tokens::ReadStop;

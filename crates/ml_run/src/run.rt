@@ -3,15 +3,23 @@ ghost use Rattle.std.specs.Prelude.{◌≡◌, ◌↔◌, length, IfOk, IfErr, O
 ghost use Rattle.ml_outside.specs.Written.{Appended, AppendedFront};
 ghost use Rattle.ml_run.specs.Words.{texts, AreBad};
 ghost use Rattle.ml_run.specs.Status.{NamesWord};
-ghost use Rattle.ml_run.specs.Numbers.{in_order, block_text};
+ghost use Rattle.std.specs.Prelude.{IsTrue};
+ghost use Rattle.ml_term.specs.Seen.{seen};
+ghost use Rattle.ml_search.specs.Loading.{in_key_order};
+ghost use Rattle.ml_run.specs.Answering.{answers, block_text};
+ghost use Rattle.ml_run.specs.GoalSeen.{goal_seen};
+ghost use Rattle.ml_run.specs.KeyOrder.{trees};
+ghost use Rattle.ml_run.specs.Plain.{is_flat_call};
+ghost use Rattle.ml_run.specs.Relation.{IsRelation};
 ghost use Rattle.ml_run.specs.Causes.{WriteRefused, Refused};
 ghost use Rattle.ml_run.specs.Answers.{Counts, IsCaused, IsQuiet, TellsOutcome};
 ghost use Rattle.ml_run.specs.Prints.{Printed, Prints, IsSilent, IsBeginning};
 
 use crate::block::block_of;
-use crate::form::{Argument, Rules, one_goal, one_reading};
+use crate::form::{Rules, one_goal, one_reading};
+use crate::goal::Goal;
+use crate::key_order::in_key_order;
 use crate::load::{load_rules, load_script};
-use crate::relation::in_order;
 use crate::status::Status;
 use crate::words::names_of;
 use ml_outside::{Shelf, Sink, WriteStop};
@@ -66,20 +74,21 @@ fn run_session<S: Shelf, K: Sink>(
     ensures held { S.held shelf.new ≡ S.held shelf.old }
 {
     let rules = load_rules(alloc, shelf, rules_file)?;
-    let argument = load_script(alloc, shelf, script_file, rules.name.as_slice())?;
-    let block = block_over(alloc, &rules, &argument)?;
+    let goal = load_script(alloc, shelf, script_file, &rules.decl)?;
+    let block = block_over(alloc, rules, &goal)?;
     write_block(alloc, out, &block)
 }
 
 // The session's block over the facts.
-fn block_over(alloc: Global, rules: &Rules, argument: &Argument) -> Result<Vec<u8>, Status>
-    ensures ok { IfOk result (λ bytes. bytes.items ≡ block_text argument.now (in_order rules.now.facts)) }
+fn block_over(alloc: Global, rules: Rules, goal: &Goal) -> Result<Vec<u8>, Status>
+    requires relation { IsRelation rules.decl rules.facts.items }
+    requires flat { IsTrue (is_flat_call (seen goal.now.term)) }
+    ensures ok { IfOk result (λ bytes. bytes.items ≡ block_text (goal_seen goal.now) (answers (goal_seen goal.now) (in_key_order rules.decl.keys (trees rules.facts.items)))) }
     ensures err { IfErr result (λ status. status ≡ Status.OutOfMemory) }
 {
-    let Ok(numbers) = in_order(alloc, rules.facts.as_slice()) else {
-        return Err(Status::OutOfMemory);
-    };
-    let Ok(block) = block_of(alloc, argument, &numbers) else {
+    let Rules { decl, facts } = rules;
+    let tuples = in_key_order(&decl, facts);
+    let Ok(block) = block_of(alloc, goal, &tuples) else {
         return Err(Status::OutOfMemory);
     };
     Ok(block)

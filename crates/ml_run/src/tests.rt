@@ -21,7 +21,7 @@ fn shelf_of(alloc: Global, rules: &[u8], script: &[u8]) -> Result<MemShelf, PutS
 }
 
 // Rules, a script, and what is printed for them.
-const RUNS: [(&[u8], &[u8], &[u8]); 5] = [
+const RUNS: [(&[u8], &[u8], &[u8]); 9] = [
     (RULES, b"?- p(X).", PRINTED),
     (
         b":- relation(p/1). p(10). p(9). p(10). p(2305843009213693951).",
@@ -43,6 +43,26 @@ const RUNS: [(&[u8], &[u8], &[u8]); 5] = [
         b"?- p(_).",
         b"session 1 committed\ngoal 1\n  0 answers\n",
     ),
+    (
+        b":- relation(q/2). q(0,2). q(1,0).",
+        b"?- q(X,Y).",
+        b"session 1 committed\ngoal 1\n  X = 1, Y = 0\n  X = 0, Y = 2\n  2 answers\n",
+    ),
+    (
+        b":- relation(d/2). d(department_a,1). d(department_b,2).",
+        b"?- d(department_b,N).",
+        b"session 1 committed\ngoal 1\n  N = 2\n  1 answers\n",
+    ),
+    (
+        b":- relation(e/2). e(a,b). e(c,c).",
+        b"?- e(X,X).",
+        b"session 1 committed\ngoal 1\n  X = c\n  1 answers\n",
+    ),
+    (
+        b":- relation(e/2). e(a,b). e(c,7).",
+        b"?- e(_,7).",
+        b"session 1 committed\ngoal 1\n  true\n  1 answers\n",
+    ),
 ];
 
 #[test]
@@ -59,7 +79,7 @@ fn each_run_prints_its_answers_in_key_order(rt: HostRuntime) -> Result<(), Fail>
 }
 
 // Rules, a script, and the status for texts that aren't of the form.
-const OTHERS: [(&[u8], &[u8], Status); 8] = [
+const OTHERS: [(&[u8], &[u8], Status); 13] = [
     (
         b":- relation(p/1). p(9).p(9).",
         b"?- p(X).",
@@ -70,7 +90,16 @@ const OTHERS: [(&[u8], &[u8], Status); 8] = [
         b"?- p(X).",
         Status::NotBuilt(1),
     ),
-    (b":- relation(p/2).", b"?- p(X).", Status::NotBuilt(1)),
+    (b":- relation(p/2).", b"?- p(X).", Status::NotBuilt(2)),
+    (b":- relation(p/3).", b"?- p(X).", Status::NotBuilt(1)),
+    (b"", b"?- p(X).", Status::NotBuilt(1)),
+    (RULES, b"", Status::NotBuilt(2)),
+    (
+        b":- relation(p/1). p(mod).",
+        b"?- p(X).",
+        Status::NotBuilt(1),
+    ),
+    (b":- relation(p/1). p(X).", b"?- p(X).", Status::NotBuilt(1)),
     (b":- relation(atom/1).", b"?- atom(X).", Status::NotBuilt(1)),
     (b":- relation(mod/1).", b"?- mod(X).", Status::NotBuilt(1)),
     (
@@ -94,37 +123,43 @@ fn a_text_that_is_not_of_the_form_is_not_built(rt: HostRuntime) -> Result<(), Fa
     Ok(())
 }
 
-// Words, the status, and its line, where `rules.pl` and `s1` are held and nothing else.
-const REFUSED: [(&[&str], Status, &[u8]); 7] = [
-    (&[], Status::BadWords, b"megalog: bad words\n"),
+// Words, the status, its number, and its line, where `rules.pl` and `s1` are held and nothing else.
+const REFUSED: [(&[&str], Status, u8, &[u8]); 7] = [
+    (&[], Status::BadWords, 2, b"megalog: bad words\n"),
     (
         &["run", "rules.pl", "s1"],
         Status::BadWords,
+        2,
         b"megalog: bad words\n",
     ),
     (
         &["serial", "rules.pl", "-s"],
         Status::BadWords,
+        2,
         b"megalog: bad words\n",
     ),
     (
         &["serial", "none", "gone"],
         Status::NoFile(1),
+        3,
         b"megalog: no file none\n",
     ),
     (
         &["serial", "rules.pl", "gone"],
         Status::NoFile(2),
+        3,
         b"megalog: no file gone\n",
     ),
     (
         &["serial", "s1", "gone"],
         Status::NotBuilt(1),
+        13,
         b"megalog: not built s1\n",
     ),
     (
         &["serial", "rules.pl", "rules.pl"],
         Status::NotBuilt(2),
+        13,
         b"megalog: not built rules.pl\n",
     ),
 ];
@@ -132,11 +167,12 @@ const REFUSED: [(&[&str], Status, &[u8]); 7] = [
 #[test]
 fn each_refusal_has_its_line(rt: HostRuntime) -> Result<(), Fail> {
     let alloc = rt.alloc();
-    for (words, wanted, line) in REFUSED {
+    for (words, wanted, number, line) in REFUSED {
         let mut shelf = shelf_of(alloc, RULES, b"?- p(X).")?;
         let mut out = MemSink::new(alloc);
         let status = serial(alloc, words, &mut shelf, &mut out);
         assert_eq!(rt; status, wanted);
+        assert_eq!(rt; status.number(), number);
         assert!(rt; out.bytes().is_empty());
         let told = line_of(alloc, &status, words)?;
         assert_eq!(rt; told.as_slice(), line);
@@ -160,8 +196,35 @@ fn a_text_of_the_limit_is_read_and_one_byte_more_is_too_long(rt: HostRuntime) ->
     shelf.put(alloc, "rules.pl", &rules)?;
     let status = serial(alloc, &WORDS, &mut shelf, &mut out);
     assert_eq!(rt; status, Status::TooLong(1));
+    assert_eq!(rt; status.number(), 4);
     let line = line_of(alloc, &status, &WORDS)?;
     assert_eq!(rt; line.as_slice(), b"megalog: too long rules.pl\n".as_slice());
+    Ok(())
+}
+
+// Rules of one fact whose argument is a name of so many bytes.
+fn rules_of_name(alloc: Global, bytes: usize) -> Result<Vec<u8>, Fail> {
+    let mut rules = Vec::new(alloc);
+    rules.extend_from_slice(b":- relation(p/1). p(")?;
+    let name = vec![in alloc; b'a'; bytes]?;
+    rules.extend_from_slice(&name)?;
+    rules.extend_from_slice(b").")?;
+    Ok(rules)
+}
+
+#[test]
+fn a_name_of_255_bytes_is_read_and_one_of_256_is_not(rt: HostRuntime) -> Result<(), Fail> {
+    let alloc = rt.alloc();
+    let mut shelf = shelf_of(alloc, &rules_of_name(alloc, 255)?, b"?- p(X).")?;
+    let mut out = MemSink::new(alloc);
+    assert_eq!(rt; serial(alloc, &WORDS, &mut shelf, &mut out), Status::Done);
+    assert_eq!(rt; out.bytes().len(), 301);
+    shelf.put(alloc, "rules.pl", &rules_of_name(alloc, 256)?)?;
+    assert_eq!(rt;
+        serial(alloc, &WORDS, &mut shelf, &mut out),
+        Status::NotBuilt(1)
+    );
+    assert_eq!(rt; out.bytes().len(), 301);
     Ok(())
 }
 
@@ -205,6 +268,7 @@ fn a_failed_fetch_is_told_by_its_word_and_only_once(rt: HostRuntime) -> Result<(
     let mut out = MemSink::new(alloc);
     let status = serial(alloc, &WORDS, &mut shelf, &mut out);
     assert_eq!(rt; status, Status::ReadFailed(2));
+    assert_eq!(rt; status.number(), 5);
     assert!(rt; out.bytes().is_empty());
     let line = line_of(alloc, &status, &WORDS)?;
     assert_eq!(rt; line.as_slice(), b"megalog: cannot read s1\n".as_slice());
@@ -243,6 +307,7 @@ fn a_failed_write_leaves_a_beginning_of_the_print(rt: HostRuntime) -> Result<(),
     };
     let status = serial(alloc, &WORDS, &mut shelf, &mut out);
     assert_eq!(rt; status, Status::WriteFailed);
+    assert_eq!(rt; status.number(), 9);
     assert_eq!(rt; out.inner.bytes(), b"session".as_slice());
     let line = line_of(alloc, &status, &WORDS)?;
     assert_eq!(rt; line.as_slice(), b"megalog: cannot write\n".as_slice());

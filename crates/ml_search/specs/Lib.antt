@@ -11,6 +11,7 @@ pub mod Changes
 pub mod Builtins
 pub mod Table
 pub mod Known
+pub mod Reserved
 pub mod Search
 pub mod Session
 pub mod History
@@ -21,6 +22,10 @@ pub mod Told
 pub mod Replay
 pub mod WellFormed
 pub mod Seen
+pub mod ClauseSeen
+pub mod GoalSeen
+pub mod ProgramSeen
+pub mod DeclTable
 pub mod Words
 pub mod Loading
 pub mod RowWords
@@ -32,3 +37,7 @@ pub mod RowsEndings
 pub mod RowsStored
 pub mod RowsTerms
 pub mod RowsReplay
+pub mod Triangular
+pub mod Unifying
+pub mod MapSeen
+pub mod Meeting

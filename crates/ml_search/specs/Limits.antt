@@ -21,6 +21,10 @@ most_answer_bytes = 1048576
 abbrev pub most_inferences : ℕ
 most_inferences = 200000
 
+-- inferences of a session whose script gives no budget
+abbrev pub given_inferences : ℕ
+given_inferences = 20000
+
 -- the arity of a compound at the most
 abbrev pub most_arguments : ℕ
 most_arguments = 255

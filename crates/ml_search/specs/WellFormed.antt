@@ -44,7 +44,10 @@ abbrev pub are_declared_once : List Decl → Bool
 are_declared_once [] = true
 are_declared_once (d ∷ ds) = is_none (place_of ds d.pred.name d.pred.arity) && are_declared_once ds
 
+-- whether no clause is of a declared predicate
+abbrev pub are_undeclared : List Decl → List Clause → Bool
+are_undeclared ds cs = list_all (λ c. is_none (place_of ds (name_of c.head) (arity_of c.head))) cs
+
 -- whether a program's declarations are of different predicates and not too many, and its clauses are clauses of predicates that aren't declared
 abbrev pub is_program : Program → Bool
-is_program p =
-    are_declared_once p.decls && nat_le (length p.decls) most_declarations && list_all (λ c. is_clause c && is_none (place_of p.decls (name_of c.head) (arity_of c.head))) p.clauses
+is_program p = are_declared_once p.decls && nat_le (length p.decls) most_declarations && list_all is_clause p.clauses && are_undeclared p.decls p.clauses

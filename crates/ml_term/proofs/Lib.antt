@@ -31,3 +31,9 @@ pub mod DefaultKeys
 pub mod Numbering
 pub mod KeysApart
 pub mod Places
+pub mod VariablesMet
+pub mod NodesStand
+pub mod Refused
+pub mod TermsRead
+pub mod NamesRead
+pub mod Standing

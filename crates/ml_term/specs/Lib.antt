@@ -18,3 +18,6 @@ pub mod Unifiers
 pub mod Falling
 pub mod Instances
 pub mod UnifierRows
+pub mod StandsAt
+pub mod FirstDefect
+pub mod Reading

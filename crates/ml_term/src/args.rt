@@ -40,4 +40,14 @@ impl<T> ArgsOf<T> {
     {
         self.items.as_slice()
     }
+
+    /// The items as a vector.
+    pub fn into_vec(self) -> Vec<T>
+        ensures same { result.items ≡ self }
+        ensures low { 1 ≤ length self }
+        ensures high { length self ≤ 255 }
+    {
+        let ArgsOf { items } = self;
+        items
+    }
 }

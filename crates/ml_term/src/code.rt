@@ -9,7 +9,7 @@ use crate::limits::{INTEGER_OFFSET, MOST_CODED_LENGTH};
 use crate::term::Term;
 
 /// An integer counted from the smallest one, below 2 to the power of 62.
-fn counted_from_smallest(v: i64) -> u64
+pub(crate) fn counted_from_smallest(v: i64) -> u64
     requires { IsTrue (is_in_range v) }
     ensures same { result ≡ counted v }
     ensures below { result < 2 ^ 62 }

@@ -1,6 +1,8 @@
 //! Declared predicates: their names, kinds and keyed arguments.
-ghost use Rattle.std.specs.Prelude.{◌≡◌, ◌≤◌, ◌↔◌, IsTrue, IfOk};
-ghost use Rattle.ml_term.specs.Keys.{are_keys, default_keys};
+ghost use Rattle.std.specs.Prelude.{◌≡◌, ◌≤◌, ◌↔◌, ◌&&◌, IsTrue, IfOk, nat_le};
+ghost use Rattle.std.specs.List.{list_all};
+ghost use Rattle.ml_term.specs.Keys.{are_different, are_keys, default_keys};
+ghost use Rattle.ml_term.specs.Tree.{has};
 
 use crate::limits::MOST_KEYS;
 use crate::name::Name;
@@ -40,6 +42,44 @@ pub enum Kind {
     Relation,
     /// Clauses, in the order in which they were put.
     Clauses,
+}
+
+/// Whether a number is one of these.
+fn has(k: u8, numbers: &[u8]) -> bool
+    ensures { result ≡ has k numbers.now }
+{
+    match numbers.split_first() {
+        None => false,
+        Some((m, numbers)) => *m == k || has(k, numbers),
+    }
+}
+
+/// Whether no number stands twice among these.
+fn are_different(numbers: &[u8]) -> bool
+    ensures { result ≡ are_different numbers.now }
+{
+    match numbers.split_first() {
+        None => true,
+        Some((k, numbers)) => !has(*k, numbers) && are_different(numbers),
+    }
+}
+
+/// Whether all numbers are those of arguments.
+fn are_in_range(arity: u8, numbers: &[u8]) -> bool
+    ensures { result ≡ list_all (λ k. nat_le 1 k && nat_le k arity) numbers.now }
+{
+    numbers.iter().all(|k| 1 <= *k && *k <= arity)
+}
+
+/// Whether these may be the keys of a declaration: 1 to 8 different numbers from 1 to the arity. It takes no memory.
+pub fn are_keys(arity: u8, numbers: &[u8]) -> bool
+    ensures { result ≡ are_keys arity numbers.now }
+{
+    let count = numbers.len();
+    1 <= count
+        && count <= usize::from(MOST_KEYS)
+        && are_in_range(arity, numbers)
+        && are_different(numbers)
 }
 
 /// The numbers of the keyed arguments, from 1, in the order in which their codes take part in a key. Contracts see the list.

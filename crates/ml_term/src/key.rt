@@ -15,8 +15,8 @@ use crate::declaration::Decl;
 use crate::term::Term;
 use std::cmp::Ordering;
 
-/// The arguments of a compound, and none of other terms.
-fn arguments_of(t: &Term) -> &[Term]
+/// The arguments of a compound, and none of other terms. It takes no memory.
+pub fn arguments_of(t: &Term) -> &[Term]
     requires { IsTrue (is_valid (seen t.now)) }
     ensures same { trees_of (all_seen result.now) ≡ arguments (seen t.now) }
     ensures valid { IsTrue (are_valid (trees_of (all_seen result.now))) }
@@ -27,8 +27,8 @@ fn arguments_of(t: &Term) -> &[Term]
     }
 }
 
-/// The argument with a number from 1.
-fn argument_at(ts: &[Term], k: u8) -> &Term
+/// The argument with a number from 1. It takes no memory.
+pub fn argument_at(ts: &[Term], k: u8) -> &Term
     requires low { 1 ≤ k }
     requires high { k ≤ length ts.now }
     requires valid { IsTrue (are_valid (trees_of (all_seen ts.now))) }

@@ -5,7 +5,11 @@
 #![tactic(auto, using(crate::proofs::Sizes::nodes_above_zero, crate::proofs::Sizes::arity_of_trees))]
 
 mod args;
+pub mod bytes_laws;
+#[cfg(test)]
+mod bytes_tests;
 mod canonical;
+mod canonical_size;
 mod code;
 pub mod decimal_laws;
 mod declaration;
@@ -17,7 +21,12 @@ pub mod name_laws;
 mod nodes;
 mod order;
 pub mod pattern_laws;
+mod reading;
+mod spelling;
+mod stop;
+mod tags;
 mod term;
+mod terms;
 #[cfg(test)]
 mod tests;
 pub mod unification_laws;
@@ -26,12 +35,19 @@ pub mod worked_rows;
 
 pub use args::ArgsOf;
 pub use canonical::canonical_cmp;
+pub use canonical_size::canonical_len_up_to;
 pub use code::code_word;
-pub use declaration::{Decl, Keys, Kind, Pred};
-pub use key::key_cmp;
-pub use limits::{INTEGER_OFFSET, MOST_ARGUMENTS, MOST_CODED_LENGTH, MOST_KEYS, MOST_NAME_BYTES};
+pub use declaration::{Decl, Keys, Kind, Pred, are_keys};
+pub use key::{argument_at, arguments_of, key_cmp};
+pub use limits::{
+    INTEGER_OFFSET, MOST_ARGUMENTS, MOST_CODED_LENGTH, MOST_KEYS, MOST_NAME_BYTES, MOST_NODES,
+};
 pub use name::{Name, is_name};
 pub use nodes::{is_ground, nodes_up_to};
 pub use order::compare;
+pub use reading::from_bytes;
+pub use spelling::to_bytes;
+pub use stop::{BadBytes, BytesStop};
 pub use term::{Args, Term, copy_terms};
+pub use terms::Terms;
 pub use valid::{is_in_range, is_valid};

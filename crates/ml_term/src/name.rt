@@ -47,7 +47,7 @@ fn are_name_bytes(bytes: &[u8]) -> bool
 }
 
 /// Whether a name may have this byte.
-fn is_name_byte(byte: u8) -> bool
+pub(crate) fn is_name_byte(byte: u8) -> bool
     ensures { result ≡ is_name_byte byte }
 {
     (7 <= byte && byte <= 13) || (32 <= byte && byte <= 126)

@@ -2,8 +2,8 @@
 ghost use Rattle.std.specs.Prelude.{◌≡◌, IfOk};
 
 use crate::{
-    Args, Decl, Keys, Kind, Name, Pred, Term, compare, is_in_range, is_name, is_valid, key_cmp,
-    nodes_up_to,
+    Args, Decl, Keys, Kind, Name, Pred, Term, Terms, are_keys, canonical_len_up_to, compare,
+    is_in_range, is_name, is_valid, key_cmp, nodes_up_to,
 };
 use std::alloc::{AllocError, Global};
 use std::cmp::Ordering;
@@ -78,6 +78,36 @@ fn copies_of_terms_are_equal(rt: HostRuntime) -> Result<(), Fail> {
 }
 
 #[test]
+fn lists_of_terms_keep_their_terms(rt: HostRuntime) -> Result<(), Fail> {
+    let alloc = rt.alloc();
+    let list = Terms::from_vec(vec![in alloc; Term::Var(3), Term::Int(-4)]?);
+    let copy = list.copy_of(alloc)?;
+    let terms = Args::new(copy.into_vec()).into_vec();
+    assert!(rt; terms.len() == 2 && list.as_slice().len() == 2);
+    for (a, b) in terms.iter().zip(list.as_slice()) {
+        assert_eq!(rt; compare(a, b), Ordering::Equal);
+    }
+    Ok(())
+}
+
+#[test]
+fn canonical_bytes_are_counted_up_to_a_limit(rt: HostRuntime) -> Result<(), Fail> {
+    let alloc = rt.alloc();
+    let term = term_of(&rt, alloc, Row::Two(b"pair", -7, b"[]"))?;
+    for (limit, want) in [(0, 1), (6, 7), (19, 20), (20, 20), (4096, 20)] {
+        assert_eq!(rt; canonical_len_up_to(&term, limit), want, "{limit}");
+    }
+    for (row, want) in [
+        (Row::Variable(3), 5),
+        (Row::Number(3), 9),
+        (Row::Word(b"abc"), 5),
+    ] {
+        assert_eq!(rt; canonical_len_up_to(&term_of(&rt, alloc, row)?, 100), want);
+    }
+    Ok(())
+}
+
+#[test]
 fn copies_of_declarations_are_equal(rt: HostRuntime) -> Result<(), Fail> {
     let alloc = rt.alloc();
     let pred = pred_of(&rt, alloc, b"edge", 9)?;
@@ -98,6 +128,22 @@ fn copies_of_keys_are_equal(rt: HostRuntime) -> Result<(), Fail> {
     let pair = Keys::default_of(alloc, 2)?;
     assert_eq!(rt; pair.as_slice(), [1, 2].as_slice());
     Ok(())
+}
+
+#[test]
+fn keys_are_different_numbers_of_arguments(rt: HostRuntime) {
+    let table: [(&[u8], bool); 7] = [
+        (&[], false),
+        (&[2, 1], true),
+        (&[1, 1], false),
+        (&[0], false),
+        (&[9], true),
+        (&[10], false),
+        (&[1, 2, 3, 4, 5, 6, 7, 8, 9], false),
+    ];
+    for (numbers, want) in table {
+        assert_eq!(rt; are_keys(9, numbers), want, "{numbers:?}");
+    }
 }
 
 #[test]

@@ -1,8 +1,9 @@
 //! Worked rows: what the definitions give, computed. The functions do nothing: their contracts are the rows.
-ghost use Rattle.std.specs.Prelude.{◌≡◌, ℕ, pos, negsuc, true, false, [], ◌∷◌, codes, slice_get, take, Some};
+ghost use Rattle.std.specs.Prelude.{◌≡◌, ℕ, pos, negsuc, true, false, [], ◌∷◌, codes, slice_get, take, Some, None};
 ghost use Rattle.std.specs.declared.cmp.Ordering.TheVariants.{Less};
 ghost use Rattle.ml_term.specs.CanonicalBytes.{bytes_of};
 ghost use Rattle.ml_term.specs.Codes.{bits, code};
+ghost use Rattle.ml_term.specs.FirstDefect.{first_defect};
 ghost use Rattle.ml_term.specs.Keys.{tuple_cmp, tuple_key};
 ghost use Rattle.ml_term.specs.Rows.{q};
 ghost use Rattle.ml_term.specs.Text.{text_of};
@@ -37,6 +38,18 @@ pub fn keys_of_pairs()
 pub fn canonical_bytes_of_terms()
     ensures compound { bytes_of (compound_1 (codes "p") (integer (pos 1))) ≡ 3 ∷ 1 ∷ 1 ∷ 0x70 ∷ 1 ∷ 0x20 ∷ 0 ∷ 0 ∷ 0 ∷ 0 ∷ 0 ∷ 0 ∷ 1 ∷ [] }
     ensures minus_one { bytes_of (integer (negsuc 0)) ≡ 1 ∷ 0x1f ∷ 0xff ∷ 0xff ∷ 0xff ∷ 0xff ∷ 0xff ∷ 0xff ∷ 0xff ∷ [] }
+{}
+
+/// The first defects of some bytes: what is none, the end, another tag, a number that is left out, too large an integer, a byte that no name has,
+/// and the arity 0.
+pub fn defects_of_bytes()
+    ensures sound { first_defect (9 ∷ 3 ∷ 1 ∷ 1 ∷ 0x70 ∷ 1 ∷ 0x20 ∷ 0 ∷ 0 ∷ 0 ∷ 0 ∷ 0 ∷ 0 ∷ 1 ∷ []) 1 ≡ None }
+    ensures cut { first_defect (9 ∷ 3 ∷ 1 ∷ 1 ∷ 0x70 ∷ 1 ∷ 0x20 ∷ 0 ∷ 0 ∷ []) 1 ≡ Some 9 }
+    ensures tag { first_defect (3 ∷ 1 ∷ 1 ∷ 0x70 ∷ 4 ∷ []) 0 ≡ Some 4 }
+    ensures skips { first_defect (3 ∷ 2 ∷ 1 ∷ 0x70 ∷ 0 ∷ 0 ∷ 0 ∷ 0 ∷ 0 ∷ 0 ∷ 0 ∷ 0 ∷ 0 ∷ 2 ∷ []) 0 ≡ Some 9 }
+    ensures large { first_defect (1 ∷ 0x40 ∷ 0 ∷ 0 ∷ 0 ∷ 0 ∷ 0 ∷ 0 ∷ 0 ∷ []) 0 ≡ Some 0 }
+    ensures name { first_defect (2 ∷ 3 ∷ 0x61 ∷ 6 ∷ []) 0 ≡ Some 3 }
+    ensures arity { first_defect (3 ∷ 0 ∷ 9 ∷ []) 0 ≡ Some 1 }
 {}
 
 /// The texts of a list that ends in a variable, and of a compound with a quoted name.

@@ -5,7 +5,7 @@ use Rattle.std.specs.Str.{bytes_eq}
 use Rattle.ml_term.specs.Text.{is_lowercase, is_uppercase, is_digit, is_symbol}
 use Rattle.ml_run.specs.declared.form.classes.Class.TheVariants.{Layout, Digit, Alphanumeric, Symbol}
 use Rattle.ml_run.specs.declared.form.tokens.Mark as marks
-use Rattle.ml_run.specs.declared.form.tokens.Mark.TheVariants.{Neck, Query, Slash, Close, End}
+use Rattle.ml_run.specs.declared.form.tokens.Mark.TheVariants.{Neck, Query, Slash, Comma, Close, End}
 use Rattle.ml_run.specs.declared.form.tokens.Token.{Token}
 use Rattle.ml_run.specs.declared.form.tokens.Token.TheVariants as code
 use Rattle.ml_run.specs.declared.form.tokens.Next.{Next}
@@ -50,7 +50,7 @@ called text (b ∷ rest) = if b == 40 then begun (functor text) rest else begun 
 
 -- a token of one byte
 abbrev pub single : ℕ → List ℕ → Front
-single b rest = if b == 41 then begun (sign Close) rest else unknown
+single b rest = if b == 41 then begun (sign Close) rest else (if b == 44 then begun (sign Comma) rest else unknown)
 
 -- the longest token that begins with this byte
 abbrev pub token_from : ℕ → List ℕ → Front

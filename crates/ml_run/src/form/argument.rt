@@ -1,9 +1,19 @@
-// The argument of a goal.
-use ml_term::Name;
+// Arguments as they are spelled.
 
-/// The argument of a goal: a variable by its name, or a number.
-#[derive(Drop)]
-pub enum Argument {
-    Variable(Name),
-    Number(u64),
+/// An argument of a fact or of a goal.
+#[derive(Clone, Copy, Debug)]
+pub enum Argument<'a> {
+    /// A bare name.
+    Named(&'a [u8]),
+    /// A number.
+    Counted(u64),
+    /// A variable by its name.
+    Free(&'a [u8]),
+}
+
+/// The arguments of a fact or of a goal.
+#[derive(Clone, Copy, Debug)]
+pub enum Call<'a> {
+    One(Argument<'a>),
+    Two(Argument<'a>, Argument<'a>),
 }

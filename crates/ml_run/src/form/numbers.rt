@@ -3,7 +3,6 @@ ghost use Rattle.std.specs.Prelude.{◌≡◌, ◌<◌, IfSome, IfNone};
 ghost use Rattle.ml_run.specs.form.Classes.{value_of, number_limit, IsSmall};
 
 use crate::limits::MAX_NUMBER;
-use std::marker::Model;
 
 /// The number that digits spell, if it is within the limit.
 pub fn number(digits: &[u8]) -> Option<u64>
@@ -22,34 +21,4 @@ pub fn number(digits: &[u8]) -> Option<u64>
         rest = after;
     }
     Some(n)
-}
-
-/// Numbers in an order. Contracts see the list.
-#[derive(Drop)]
-pub struct Numbers {
-    items: Vec<u64>,
-}
-
-impl Model for Numbers {
-    ghost use Rattle.std.specs.Prelude.{List, ℕ};
-
-    ghost Value = { List ℕ };
-
-    ghost view = { λ numbers. numbers.items.items };
-}
-
-impl Numbers {
-    /// These numbers.
-    pub fn new(items: Vec<u64>) -> Numbers
-        ensures { result ≡ items.items }
-    {
-        Numbers { items }
-    }
-
-    /// The numbers as a slice.
-    pub fn as_slice(&self) -> &[u64]
-        ensures { result.now ≡ self.now }
-    {
-        self.items.as_slice()
-    }
 }

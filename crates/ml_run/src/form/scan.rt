@@ -120,6 +120,8 @@ fn single<'a>(b: u8, rest: &'a [u8]) -> Next<'a>
 {
     if b == b')' {
         Next::Found(Token::Mark(Mark::Close), rest)
+    } else if b == b',' {
+        Next::Found(Token::Mark(Mark::Comma), rest)
     } else {
         Next::Unknown
     }

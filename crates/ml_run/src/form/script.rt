@@ -1,77 +1,62 @@
 // Reads a script: one goal, a call of the relation.
-ghost use Rattle.std.specs.Prelude.{◌≡◌, ◌∷◌, [], List, ℕ, map, IfOk, IsErrOf, IfSome, IfNone, IsTrue};
-ghost use Rattle.ml_run.specs.declared.form.argument.Argument.{Argument as AnArgument};
-ghost use Rattle.ml_run.specs.declared.form.tokens.Mark.TheVariants.{Query, Close, End};
-ghost use Rattle.ml_run.specs.form.Tokens.{Lexeme, lexeme, functor, sign};
-ghost use Rattle.ml_run.specs.form.Grammar.{IsGoal, SpellsScript};
+ghost use Rattle.std.specs.Prelude.{◌≡◌, ◌∷◌, [], List, ℕ, true, map, IfOk, IsErrOf, IfSome, IfNone, IsTrue};
+ghost use Rattle.ml_term.specs.Seen.{seen};
+ghost use Rattle.ml_term.specs.declared.declaration.Decl.{Decl as ADecl};
+ghost use Rattle.ml_search.specs.Program.{Goal as AGoal};
+ghost use Rattle.ml_run.specs.GoalSeen.{goal_seen};
+ghost use Rattle.ml_run.specs.Plain.{is_flat_call};
+ghost use Rattle.ml_run.specs.form.Tokens.{lexeme};
+ghost use Rattle.ml_run.specs.form.Arguments.{Argument, call_seen};
+ghost use Rattle.ml_run.specs.form.Grammar.{query, is_arity, AreArguments, IsGoal, SpellsScript};
 
-use crate::form::argument::Argument;
-use crate::form::names::is_valid;
+use crate::form::argument::Call;
+use crate::form::building::goal_of;
+use crate::form::calls::fact_at;
 use crate::form::scan::tokens;
-use crate::form::steps::{behind_functor, behind_mark, number_at, variable_at};
+use crate::form::steps::behind_mark;
 use crate::form::tokens::{Mark, ReadStop, Token};
-use ml_term::Name;
+use crate::goal::Goal;
+use ml_term::Decl;
 use std::alloc::Global;
 
-/// The argument of the one goal that a text spells, a call of the predicate with this name.
-pub fn read_script(alloc: Global, name: &[u8], bytes: &[u8]) -> Result<Argument, ReadStop>
-    ensures ok { IfOk result (λ argument. SpellsScript bytes.now name.now argument) }
-    ensures refused { IsErrOf result ReadStop.NotOfForm → (argument : AnArgument) → SpellsScript bytes.now name.now argument → ⊥ }
+/// The goal that a text spells, a call of the declared predicate.
+pub fn read_script(alloc: Global, decl: &Decl, bytes: &[u8]) -> Result<Goal, ReadStop>
+    requires { IsTrue (is_arity decl.now.pred.arity) }
+    ensures ok { IfOk result (λ g. SpellsScript bytes.now decl.now (goal_seen g)) }
+    ensures flat { IfOk result (λ g. IsTrue (is_flat_call (seen g.term))) }
+    ensures refused { IsErrOf result ReadStop.NotOfForm → (g : AGoal) → SpellsScript bytes.now decl.now g → ⊥ }
 {
     let tokens = tokens(alloc, bytes)?;
-    argument_of(alloc, name, &tokens)
+    read_goal(alloc, decl, &tokens)
 }
 
-// The argument of the goal that tokens spell.
-fn argument_of(alloc: Global, name: &[u8], tokens: &[Token]) -> Result<Argument, ReadStop>
-    ensures ok { IfOk result (λ argument. IsGoal (map lexeme tokens.now) name.now argument) }
-    ensures refused { IsErrOf result ReadStop.NotOfForm → (argument : AnArgument) → IsGoal (map lexeme tokens.now) name.now argument → ⊥ }
+// The goal that tokens spell.
+fn read_goal(alloc: Global, decl: &Decl, tokens: &[Token]) -> Result<Goal, ReadStop>
+    requires { IsTrue (is_arity decl.now.pred.arity) }
+    ensures ok { IfOk result (λ g. IsGoal (map lexeme tokens.now) decl.now.pred.name decl.now.pred.arity (goal_seen g)) }
+    ensures flat { IfOk result (λ g. IsTrue (is_flat_call (seen g.term))) }
+    ensures refused { IsErrOf result ReadStop.NotOfForm → (g : AGoal) → IsGoal (map lexeme tokens.now) decl.now.pred.name decl.now.pred.arity g → ⊥ }
 {
-    let Some(inner) = inside_goal(name, tokens) else {
+    let name = decl.pred.name.as_slice();
+    let Some(found) = query_of(name, decl.pred.arity, tokens) else {
         return Err(ReadStop::NotOfForm);
     };
-    if let Some((variable, rest)) = variable_at(inner) {
-        if !is_closed(rest) {
-            return Err(ReadStop::NotOfForm);
-        }
-        if !is_valid(variable) {
-            return Err(ReadStop::NotOfForm);
-        }
-        return Ok(Argument::Variable(Name::new(alloc, variable)?));
-    }
-    let Some((n, rest)) = number_at(inner) else {
-        return Err(ReadStop::NotOfForm);
-    };
-    if !is_closed(rest) {
-        return Err(ReadStop::NotOfForm);
-    }
-    Ok(Argument::Number(n))
+    Ok(goal_of(alloc, name, &found)?)
 }
 
-// What stands behind a goal's opening parenthesis.
-fn inside_goal<'t, 'a>(name: &[u8], tokens: &'t [Token<'a>]) -> Option<&'t [Token<'a>]>
-    ensures some { IfSome result (λ rest. map lexeme tokens.now ≡ sign Query ∷ functor name.now ∷ map lexeme rest.now) }
-    ensures none { IfNone result ((ts : List Lexeme) → map lexeme tokens.now ≡ sign Query ∷ functor name.now ∷ ts → ⊥) }
+// The arguments of the one query that tokens are.
+fn query_of<'a>(name: &[u8], arity: u8, tokens: &[Token<'a>]) -> Option<Call<'a>>
+    requires { IsTrue (is_arity arity) }
+    ensures some { IfSome result (λ found. map lexeme tokens.now ≡ query name.now (call_seen found)) }
+    ensures is { IfSome result (λ found. AreArguments true arity (call_seen found)) }
+    ensures none { IfNone result ((given : List Argument) → AreArguments true arity given → map lexeme tokens.now ≡ query name.now given → ⊥) }
 {
     let rest = behind_mark(Mark::Query, tokens)?;
-    behind_functor(name, rest)
+    let (found, rest) = fact_at(name, arity, true, rest)?;
+    if rest.is_empty() { Some(found) } else { None }
 }
 
-// Whether these are the last tokens of a goal.
-fn is_closed(tokens: &[Token]) -> bool
-    ensures yes { IsTrue result → map lexeme tokens.now ≡ sign Close ∷ sign End ∷ [] }
-    ensures no { map lexeme tokens.now ≡ sign Close ∷ sign End ∷ [] → IsTrue result }
-{
-    let Some(rest) = behind_mark(Mark::Close, tokens) else {
-        return false;
-    };
-    let Some(rest) = behind_mark(Mark::End, rest) else {
-        return false;
-    };
-    rest.is_empty()
-}
-
-/// A text spells one goal of this predicate, or none.
+/// A text spells one goal of the declared predicate, or none.
 pub fn one_goal()
-    ensures { (bytes name : List ℕ) (argument other : AnArgument) → SpellsScript bytes name argument → SpellsScript bytes name other → argument ≡ other }
+    ensures { (bytes : List ℕ) (d : ADecl) (g other : AGoal) → SpellsScript bytes d g → SpellsScript bytes d other → g ≡ other }
 {}

@@ -1,7 +1,7 @@
 // Single steps over tokens: what stands behind a token that is wanted.
 ghost use Rattle.std.specs.Prelude.{◌≡◌, ◌∷◌, List, ℕ, map, drop, IfSome, IfNone};
 ghost use Rattle.ml_run.specs.form.Classes.{IsSmall};
-ghost use Rattle.ml_run.specs.form.Tokens.{Lexeme, lexeme, word, functor, variable, numeral, sign};
+ghost use Rattle.ml_run.specs.form.Tokens.{Lexeme, lexeme, word, functor, numeral, sign};
 
 use crate::form::numbers::number;
 use crate::form::tokens::{Mark, Token};
@@ -44,18 +44,6 @@ pub fn name_at<'t, 'a>(tokens: &'t [Token<'a>]) -> Option<(&'a [u8], &'t [Token<
     Some((found, rest))
 }
 
-/// A variable that is first, and what stands behind it.
-pub fn variable_at<'t, 'a>(tokens: &'t [Token<'a>]) -> Option<(&'a [u8], &'t [Token<'a>])>
-    ensures some { IfSome result (λ found. map lexeme tokens.now ≡ variable found.0.now ∷ map lexeme found.1.now) }
-    ensures none { IfNone result ((name : List ℕ) (ts : List Lexeme) → map lexeme tokens.now ≡ variable name ∷ ts → ⊥) }
-{
-    let (first, rest) = tokens.split_first()?;
-    let Token::Variable(found) = *first else {
-        return None;
-    };
-    Some((found, rest))
-}
-
 /// A number that is first, and what stands behind it.
 pub fn number_at<'t, 'a>(tokens: &'t [Token<'a>]) -> Option<(u64, &'t [Token<'a>])>
     ensures some { IfSome result (λ found. map lexeme tokens.now ≡ numeral found.0 ∷ map lexeme found.1.now) }
@@ -69,14 +57,4 @@ pub fn number_at<'t, 'a>(tokens: &'t [Token<'a>]) -> Option<(u64, &'t [Token<'a>
     };
     let n = number(digits)?;
     Some((n, rest))
-}
-
-/// What stands behind a number, where this number is first.
-pub fn behind_number<'t, 'a>(n: u64, tokens: &'t [Token<'a>]) -> Option<&'t [Token<'a>]>
-    requires { IsSmall n }
-    ensures some { IfSome result (λ rest. map lexeme tokens.now ≡ numeral n ∷ map lexeme rest.now) }
-    ensures none { IfNone result ((ts : List Lexeme) → map lexeme tokens.now ≡ numeral n ∷ ts → ⊥) }
-{
-    let (found, rest) = number_at(tokens)?;
-    if found == n { Some(rest) } else { None }
 }

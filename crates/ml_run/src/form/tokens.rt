@@ -13,6 +13,8 @@ pub enum Mark {
     Query,
     /// `/`
     Slash,
+    /// `,`
+    Comma,
     /// `)`
     Close,
     /// A full stop that layout or the end of the text follows.

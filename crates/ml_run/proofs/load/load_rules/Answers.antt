@@ -9,6 +9,6 @@ returns-in-Err-NotOfForm-clause-err g c = (
   IfSome_then (g.S.Shelf.held c.args.shelf.now) c.in_ok-bytes.ensures.ok (λ files held. (
     c.in_ok-bytes.bytes.items,
     held,
-    λ name facts h. c.in-Err-NotOfForm.ensures.refused (ap Err c.in-Err-NotOfForm.field-0-is) name facts (subst (λ bytes. SpellsRules bytes name facts) (sym c.deref.ensures.value) h),
+    λ d facts h. c.in-Err-NotOfForm.ensures.refused (ap Err c.in-Err-NotOfForm.field-0-is) d facts (subst (λ bytes. SpellsRules bytes d facts) (sym c.deref.ensures.value) h),
   )),
 )

@@ -9,6 +9,6 @@ returns-in-Err-NotOfForm-clause-err g c = (
   IfSome_then (g.S.Shelf.held c.args.shelf.now) c.in_ok-bytes.ensures.ok (λ files held. (
     c.in_ok-bytes.bytes.items,
     held,
-    λ argument h. c.in-Err-NotOfForm.ensures.refused (ap Err c.in-Err-NotOfForm.field-0-is) argument (subst (λ bytes. SpellsScript bytes c.args.name.now argument) (sym c.deref.ensures.value) h),
+    λ asked h. c.in-Err-NotOfForm.ensures.refused (ap Err c.in-Err-NotOfForm.field-0-is) asked (subst (λ bytes. SpellsScript bytes c.args.decl.now asked) (sym c.deref.ensures.value) h),
   )),
 )

@@ -15,7 +15,7 @@ returns-in-Ok-clause-beginning g c = IfSome_then (g.S.Shelf.held c.args.shelf.no
 
 pub returns-in-Ok-clause-cause : goal.returns-in-Ok-clause-cause
 returns-in-Ok-clause-cause g c = IfSome_then (g.S.Shelf.held c.args.shelf.now) c.in-Ok.ensures.ok (λ files p.
-    (p.name, p.facts, p.argument, both_read _ _ _ c.in-Some.ensures.some p.name p.facts p.argument files p.rules_read p.script_read))
+    (p.decl, p.facts, p.goal, both_read _ _ _ c.in-Some.ensures.some p.decl p.facts p.goal files p.rules_read p.script_read))
 
 pub returns-in-Ok-clause-complete : goal.returns-in-Ok-clause-complete
 returns-in-Ok-clause-complete g c = λ quiet.

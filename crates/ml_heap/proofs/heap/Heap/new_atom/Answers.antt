@@ -1,12 +1,12 @@
 -- An atom is made.
-use Rattle.std.proofs.Common.{◌≡◌, ◌++◌, ◌∷◌, [], refl, arith, length}
+use Rattle.std.proofs.Common.{rules, ◌≡◌, ◌++◌, ◌∷◌, [], refl, arith, length}
 use Rattle.ml_heap.specs.declared.cell.Cell.TheVariants.{Atom}
 use Rattle.ml_heap.specs.declared.cell.Step.TheVariants.{Made}
 use Rattle.ml_heap.proofs.Making.{atom_kept, one_atom, none_created, kept_as, more_as, count_as}
 use Rattle.ml_heap.proofs.heap.Heap.new_atom.Goals as goal
 
 pub invariant_of-self-2 : goal.invariant_of-self-2
-invariant_of-self-2 c = kept_as (c.self.inside.steps.items ++ Made ∷ []) _ (c.self.inside.cells.items ++ Atom c.in_ok-name.name ∷ []) _ c.self.inside.created _ c.in_ok-push.ensures.step c.in_ok-push.ensures.made refl (atom_kept _ _ _ c.self.invariant c.in_ok-name.name)
+invariant_of-self-2 c = kept_as (c.self.inside.steps.items ++ Made ∷ []) _ (c.self.inside.cells.items ++ Atom c.in_ok-name.name ∷ []) _ c.self.inside.created _ c.in_ok-push.ensures.step c.in_ok-push.ensures.made refl (atom_kept _ _ _ c.self.invariant c.in_ok-name.name (search rules))
 
 pub returns-clause-made : goal.returns-clause-made
 returns-clause-made c =

@@ -1,5 +1,5 @@
 -- A compound is made, and marked as ground where all its arguments are known to be.
-use Rattle.std.proofs.Common.{◌≡◌, ◌<◌, ◌++◌, ◌∷◌, [], ℕ, true, map, ap, ◌∙◌, refl, subst, arith, length, get_or}
+use Rattle.std.proofs.Common.{rules, ◌≡◌, ◌<◌, ◌++◌, ◌∷◌, [], ℕ, true, map, ap, ◌∙◌, refl, subst, arith, length, get_or}
 use Rattle.ml_term.specs.Tree.{is_ground, compound, trees_of}
 use Rattle.ml_heap.specs.Changes.{Changes, HasOneMore, state, tree_in, stands_for}
 use Rattle.ml_heap.specs.Layout.{changes_of}
@@ -28,7 +28,7 @@ invariant_of-self-2 c =
     let ground : c.are_ground-ground.result ≡ true → is_ground (compound c.in_ok-name.name (trees_of (map (tree_in ts) qs))) ≡ true =
     λ b. ground_compound c.in_ok-name.name ts qs (c.are_ground-ground.ensures.ground b ts (fit_seen steps cells c.self.inside.created c.self.invariant (changes_of steps cells) refl _ c.deref.ensures.value)) in
     kept_as (steps ++ Made ∷ []) _ (cells ++ Cmp c.in_ok-name.name qs c.are_ground-ground.result ∷ []) _ c.self.inside.created _ c.in_ok-push.ensures.step made refl
-    (compound_kept steps cells c.self.inside.created c.self.invariant c.in_ok-name.name qs c.are_ground-ground.result within ground)
+    (compound_kept steps cells c.self.inside.created c.self.invariant c.in_ok-name.name qs c.are_ground-ground.result within ground (search rules) c.requires.low c.requires.high)
 
 pub returns-clause-made : goal.returns-clause-made
 returns-clause-made c =

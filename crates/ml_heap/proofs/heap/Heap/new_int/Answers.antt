@@ -14,7 +14,7 @@ made : {new : List Cell} (cells : List Cell) (z : ℤ) → SFits w64 z → new �
 made cells z f e = e ∙ ap (λ x. cells ++ Int x ∷ []) (to_z-of_z w64 z f)
 
 pub invariant_of-self-2 : goal.invariant_of-self-2
-invariant_of-self-2 c = kept_as (c.self.inside.steps.items ++ Made ∷ []) _ (c.self.inside.cells.items ++ Int c.args.v ∷ []) _ c.self.inside.created _ c.in_ok-push.ensures.step (made c.self.inside.cells.items c.args.v c.ranges.v c.in_ok-push.ensures.made) refl (integer_kept _ _ _ c.self.invariant c.args.v)
+invariant_of-self-2 c = kept_as (c.self.inside.steps.items ++ Made ∷ []) _ (c.self.inside.cells.items ++ Int c.args.v ∷ []) _ c.self.inside.created _ c.in_ok-push.ensures.step (made c.self.inside.cells.items c.args.v c.ranges.v c.in_ok-push.ensures.made) refl (integer_kept _ _ _ c.self.invariant c.args.v c.requires)
 
 pub returns-clause-made : goal.returns-clause-made
 returns-clause-made c =

@@ -1,5 +1,5 @@
 -- A variable is made, with the next number.
-use Rattle.std.proofs.Common.{◌≡◌, ◌+◌, ◌++◌, ◌∷◌, [], ap, sym, refl, arith, length}
+use Rattle.std.proofs.Common.{rules, ◌≡◌, ◌+◌, ◌++◌, ◌∷◌, [], ap, sym, refl, arith, length}
 use Rattle.ml_heap.specs.declared.cell.Cell.TheVariants.{Unbound}
 use Rattle.ml_heap.specs.declared.cell.Step.TheVariants.{Made}
 use Rattle.ml_heap.proofs.Making.{variable_kept, one_variable, one_created, kept_as, more_as, count_as}
@@ -8,7 +8,7 @@ use Rattle.ml_term.specs.Tree.{variable}
 use Rattle.ml_heap.proofs.heap.Heap.new_var.Goals as goal
 
 pub invariant_of-self-2 : goal.invariant_of-self-2
-invariant_of-self-2 c = kept_as (c.self.inside.steps.items ++ Made ∷ []) _ (c.self.inside.cells.items ++ Unbound c.self.inside.created ∷ []) _ (c.self.inside.created + 1) _ c.in_ok-push.ensures.step c.in_ok-push.ensures.made refl (variable_kept _ _ _ c.self.invariant)
+invariant_of-self-2 c = kept_as (c.self.inside.steps.items ++ Made ∷ []) _ (c.self.inside.cells.items ++ Unbound c.self.inside.created ∷ []) _ (c.self.inside.created + 1) _ c.in_ok-push.ensures.step c.in_ok-push.ensures.made refl (variable_kept _ _ _ c.self.invariant (search rules))
 
 pub returns-clause-made : goal.returns-clause-made
 returns-clause-made c =

@@ -1,0 +1,7 @@
+-- Both lists stay cells of the heap.
+use Rattle.std.proofs.Common.{◌<◌}
+use Rattle.ml_heap.specs.Changes.{cell_count}
+use Rattle.ml_bench.proofs.unify.unify.Given as goal
+
+abbrev pub invariant-loop : goal.invariant-loop
+invariant-loop l = (l.variables < cell_count l.heap) × (l.integers < cell_count l.heap)

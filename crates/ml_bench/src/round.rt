@@ -1,0 +1,30 @@
+//! Works on a heap that are undone, so that they can be done again.
+ghost use Rattle.std.specs.Prelude.{◌≡◌, ◌<◌, OnOk};
+ghost use Rattle.ml_heap.specs.Changes.{cell_count};
+
+use ml_heap::{Heap, Ref, TreeStop};
+use std::alloc::AllocError;
+
+/// Unifies the terms of two cells and undoes it. The heap is then as it was.
+pub fn unify_and_undo(heap: &mut Heap, a: Ref, b: Ref) -> Result<bool, AllocError>
+    requires a_inside { a < cell_count heap.old }
+    requires b_inside { b < cell_count heap.old }
+    ensures { OnOk result (heap.new ≡ heap.old) }
+{
+    let mark = heap.mark();
+    let unified = heap.unify(a, b)?;
+    heap.undo_to(mark);
+    Ok(unified)
+}
+
+/// Takes the term of a cell out, stores it and undoes it. The heap is then as it was.
+pub fn copy_and_undo(heap: &mut Heap, at: Ref) -> Result<(), TreeStop>
+    requires { at < cell_count heap.old }
+    ensures { OnOk result (heap.new ≡ heap.old) }
+{
+    let mark = heap.mark();
+    let term = heap.tree_at(at)?;
+    heap.store_tree(&term)?;
+    heap.undo_to(mark);
+    Ok(())
+}

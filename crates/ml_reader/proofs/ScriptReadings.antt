@@ -1,0 +1,31 @@
+-- A text is at most one script, and has at most one first fault as a script, but not both.
+use Rattle.std.specs.Prelude.{◌≡◌, ℕ, List}
+use Rattle.std.proofs.Common.{sym, ap, subst}
+use Rattle.ml_token.proofs.Fits.{first-stands, first-fails}
+use Rattle.ml_search.specs.Program.{Script}
+use Rattle.ml_reader.specs.Faults.{fault}
+use Rattle.ml_reader.specs.Lexemes.{Written}
+use Rattle.ml_reader.specs.Scripts.{IsScriptOf, IsFirstWrong}
+use Rattle.ml_reader.specs.ScriptTexts.{IsScript, HasScriptFault, no_text, wrong_clause}
+use Rattle.ml_reader.specs.declared.fault.ReadFault.{ReadFault}
+use Rattle.ml_reader.specs.declared.fault.ReadKind.TheVariants.{BadScriptItem}
+use Rattle.ml_reader.proofs.Beginnings.{Stand}
+use Rattle.ml_reader.proofs.TextLaws.{read_once, read_without_fault, one_first_fault}
+use Rattle.ml_reader.proofs.ScriptRuns.{only_script, only_wrong, script_or_wrong}
+
+stand : (bytes : List ℕ) → Stand bytes
+stand bytes = record { token = first-stands bytes; fault = first-fails bytes }
+
+pub one_script : (bytes : List ℕ) (s t : Script) → IsScript bytes s → IsScript bytes t → s ≡ t
+one_script bytes s t h k = only_script k.clauses s t (subst (λ cs. IsScriptOf cs s) (read_once bytes h.clauses k.clauses h.read k.read) h.script) k.script
+
+pub no_fault : (bytes : List ℕ) (s : Script) (f : ReadFault) → IsScript bytes s → HasScriptFault bytes f → ⊥
+no_fault bytes s f i (no_text h) = read_without_fault bytes (stand bytes) i.clauses h.met f i.read h.there
+no_fault bytes s f i (wrong_clause {cs = cs} {w = w} r h) = script_or_wrong cs s w (subst (λ cs. IsScriptOf cs s) (read_once bytes i.clauses cs i.read r) i.script) h
+
+pub one_fault : (bytes : List ℕ) (f g : ReadFault) → HasScriptFault bytes f → HasScriptFault bytes g → f ≡ g
+one_fault bytes f g (no_text h) (no_text k) = one_first_fault bytes (stand bytes) f g h k
+one_fault bytes f g (no_text h) (wrong_clause {cs = cs} r k) = absurd (read_without_fault bytes (stand bytes) cs h.met f r h.there)
+one_fault bytes f g (wrong_clause {cs = cs} r h) (no_text k) = absurd (read_without_fault bytes (stand bytes) cs k.met g r k.there)
+one_fault bytes f g (wrong_clause {cs = cs} {w = v} r h) (wrong_clause {cs = ds} {w = w} s k) =
+    ap (λ w. fault BadScriptItem w.place) (only_wrong ds v w (subst (λ cs. IsFirstWrong cs v) (read_once bytes cs ds r s) h) k)

@@ -1,0 +1,16 @@
+//! Rules as they are read.
+ghost use Rattle.std.specs.Prelude.{IsTrue};
+ghost use Rattle.ml_reader.specs.ItemsSeen.{items_seen};
+ghost use Rattle.ml_reader.specs.Rules.{are_items};
+
+use crate::items::Items;
+use ml_search::Program;
+
+/// A program, and in the order of the text the items that the lists of declared predicates have at first, each with its declaration's place. An
+/// item is a ground tuple of its relation, or a clause `:-(HEAD, BODY)` of its list, with at most 4,096 canonical bytes.
+#[derive(Drop)]
+pub struct Rules {
+    pub program: Program,
+    pub items: Items,
+    pub ghost well_formed: { IsTrue (are_items program.decls (items_seen items)) },
+}

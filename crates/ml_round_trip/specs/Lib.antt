@@ -1,0 +1,4 @@
+pub mod CanonicalTokens
+pub mod TextLevels
+pub mod ReadBack
+pub mod Rows

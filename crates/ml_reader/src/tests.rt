@@ -47,13 +47,31 @@ fn texts_are_read_or_refused_at_their_first_fault(rt: HostRuntime) -> Result<(),
         (b"'a\\", Told::Fault(ReadKind::OpenQuote, 0)),
         (b"'a\\q'.", Told::Fault(ReadKind::BadEscape, 2)),
         (b"p(\"x\").", Told::Fault(ReadKind::LeftOutQuote, 2)),
-        (b"p(2305843009213693953).", Told::Fault(ReadKind::NumberTooLarge, 2)),
-        (b"2305843009213693952.", Told::Fault(ReadKind::NumberTooLarge, 0)),
+        (
+            b"p(2305843009213693953).",
+            Told::Fault(ReadKind::NumberTooLarge, 2),
+        ),
+        (
+            b"2305843009213693952.",
+            Told::Fault(ReadKind::NumberTooLarge, 0),
+        ),
         (b"-2305843009213693952.", Told::Clauses(1, 1)),
-        (b"- 2305843009213693952.", Told::Fault(ReadKind::NumberTooLarge, 2)),
-        (b"a -2305843009213693952.", Told::Fault(ReadKind::NumberTooLarge, 3)),
-        (b"'-'2305843009213693952.", Told::Fault(ReadKind::NumberTooLarge, 3)),
-        (b"1 2305843009213693952.", Told::Fault(ReadKind::NumberTooLarge, 2)),
+        (
+            b"- 2305843009213693952.",
+            Told::Fault(ReadKind::NumberTooLarge, 2),
+        ),
+        (
+            b"a -2305843009213693952.",
+            Told::Fault(ReadKind::NumberTooLarge, 3),
+        ),
+        (
+            b"'-'2305843009213693952.",
+            Told::Fault(ReadKind::NumberTooLarge, 3),
+        ),
+        (
+            b"1 2305843009213693952.",
+            Told::Fault(ReadKind::NumberTooLarge, 2),
+        ),
         (b"- 1.", Told::Clauses(1, 2)),
         (b"a -1.", Told::Clauses(1, 3)),
         (b"- -1.", Told::Clauses(1, 2)),
@@ -137,31 +155,107 @@ fn limits_are_kept_exactly(rt: HostRuntime) -> Result<(), Fail> {
     let table: [(&[u8], &[u8], usize, &[u8], Told); 19] = [
         // 1,000 levels and one more, by brackets and by operators
         (b"", b"- ", 1000, b"a.", Told::Clauses(1, 1001)),
-        (b"", b"- ", 1001, b"a.", Told::Fault(ReadKind::TooDeep, 2000)),
-        (b"", b"- ", 1001, b"\"", Told::Fault(ReadKind::TooDeep, 2000)),
+        (
+            b"",
+            b"- ",
+            1001,
+            b"a.",
+            Told::Fault(ReadKind::TooDeep, 2000),
+        ),
+        (
+            b"",
+            b"- ",
+            1001,
+            b"\"",
+            Told::Fault(ReadKind::TooDeep, 2000),
+        ),
         (b"", b"- ", 1001, b"", Told::Fault(ReadKind::TooDeep, 2000)),
-        (b"", b"(", 1000, b"-)", Told::Fault(ReadKind::Unexpected, 1002)),
+        (
+            b"",
+            b"(",
+            1000,
+            b"-)",
+            Told::Fault(ReadKind::Unexpected, 1002),
+        ),
         (b"", b"a,", 1000, b"a.", Told::Clauses(1, 2001)),
-        (b"", b"a,", 1001, b"a.", Told::Fault(ReadKind::TooDeep, 2001)),
+        (
+            b"",
+            b"a,",
+            1001,
+            b"a.",
+            Told::Fault(ReadKind::TooDeep, 2001),
+        ),
         (b"", b"(", 1001, b"a", Told::Fault(ReadKind::TooDeep, 1000)),
         (b"", b"(", 1000, b"[]", Told::Fault(ReadKind::TooDeep, 1000)),
-        (b"f(:- ", b"(", 1000, b"a", Told::Fault(ReadKind::PriorityClash, 5)),
+        (
+            b"f(:- ",
+            b"(",
+            1000,
+            b"a",
+            Told::Fault(ReadKind::PriorityClash, 5),
+        ),
         // 255 arguments and one more
         (b"f(", b"a,", 254, b"a).", Told::Clauses(1, 256)),
-        (b"f(", b"a,", 255, b"a).", Told::Fault(ReadKind::ArityTooLarge, 511)),
+        (
+            b"f(",
+            b"a,",
+            255,
+            b"a).",
+            Told::Fault(ReadKind::ArityTooLarge, 511),
+        ),
         // 16,384 tokens and one more
-        (b"[a", b",(((((((((a)))))))))", 819, b"].", Told::Clauses(1, 1641)),
-        (b"-[a", b",(((((((((a)))))))))", 819, b"].", Told::Fault(ReadKind::ClauseTooLong, 16384)),
-        (b"a. [a", b",(((((((((a)))))))))", 819, b"", Told::Fault(ReadKind::Unexpected, 16385)),
+        (
+            b"[a",
+            b",(((((((((a)))))))))",
+            819,
+            b"].",
+            Told::Clauses(1, 1641),
+        ),
+        (
+            b"-[a",
+            b",(((((((((a)))))))))",
+            819,
+            b"].",
+            Told::Fault(ReadKind::ClauseTooLong, 16384),
+        ),
+        (
+            b"a. [a",
+            b",(((((((((a)))))))))",
+            819,
+            b"",
+            Told::Fault(ReadKind::Unexpected, 16385),
+        ),
         // 4,096 nodes and more
         (b" big([0", b",0", 2046, b"]).", Told::Clauses(1, 4096)),
-        (b" big([0", b",0", 2047, b"]).", Told::Fault(ReadKind::TooManyNodes, 1)),
-        (b" big([0", b",0", 2047, b"]) b", Told::Fault(ReadKind::Unexpected, 4104)),
+        (
+            b" big([0",
+            b",0",
+            2047,
+            b"]).",
+            Told::Fault(ReadKind::TooManyNodes, 1),
+        ),
+        (
+            b" big([0",
+            b",0",
+            2047,
+            b"]) b",
+            Told::Fault(ReadKind::Unexpected, 4104),
+        ),
         // names of 255 bytes and one more
-        (b"b ", b"a", 256, b".", Told::Fault(ReadKind::NameTooLong, 2)),
+        (
+            b"b ",
+            b"a",
+            256,
+            b".",
+            Told::Fault(ReadKind::NameTooLong, 2),
+        ),
     ];
     for (before, piece, times, after, want) in table {
-        assert_eq!(rt; tell_repeated(alloc, before, piece, times, after)?, want, "{before:?}");
+        assert_eq!(rt;
+            tell_repeated(alloc, before, piece, times, after)?,
+            want,
+            "{before:?}"
+        );
     }
     // token 16,385 as a name that opens level 1,001, if what follows makes a prefix operator of it
     let deep = repeated(alloc, b"", b"(", 999, b"[")?;
@@ -172,7 +266,11 @@ fn limits_are_kept_exactly(rt: HostRuntime) -> Result<(), Fail> {
         (b"-(", Told::Fault(ReadKind::ClauseTooLong, 16384)),
     ];
     for (after, want) in endings {
-        assert_eq!(rt; tell_repeated(alloc, deep.as_slice(), b"a,", 7692, after)?, want, "{after:?}");
+        assert_eq!(rt;
+            tell_repeated(alloc, deep.as_slice(), b"a,", 7692, after)?,
+            want,
+            "{after:?}"
+        );
     }
     Ok(())
 }

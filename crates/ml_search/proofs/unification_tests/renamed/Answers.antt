@@ -4,4 +4,4 @@ use Rattle.ml_search.proofs.Widths.{width_within}
 use Rattle.ml_search.proofs.unification_tests.renamed.Goals as goal
 
 pub rename-requires-clause-room : goal.rename-requires-clause-room
-rename-requires-clause-room c = omega (arith, width_within (seen c.args.t.now))
+rename-requires-clause-room g c = omega (arith, width_within (seen c.args.t.now))

@@ -6,7 +6,7 @@ use Rattle.ml_reader.specs.Lexemes.{Mark, Written, Lexeme, name, unknown, number
 use Rattle.ml_reader.specs.Operators.{Operator, infix_at, closes}
 use Rattle.ml_reader.specs.Grammar as G
 use Rattle.ml_reader.specs.Grammar.{Word, plain, brackets, curlies, AtomBefore, joins, Derives, a_negative, in_braces, an_atom, a_compound, in_parens, a_list, a_prefix, an_infix, Arguments, last_argument, argument, Elements, last_element, before_bar, element, IsText, no_clause, a_clause}
-use Rattle.ml_reader.proofs.Complete.{Begins, begins, elements_begin}
+use Rattle.ml_reader.proofs.Following.{Begins, begins, elements_begin}
 use Rattle.ml_reader.specs.Levels.{opened_by, deepest, deepest_arguments, deepest_elements, deepest_in}
 use Rattle.ml_round_trip.proofs.Shown as S
 use Rattle.ml_round_trip.proofs.Shown.{NameShown, one_token, two_brackets, two_braces, Shown, a_variable, a_number, a_name, a_call, in_brackets, ArgumentsShown, the_last, one_more, ElementsShown, no_more, a_tail, one_element}

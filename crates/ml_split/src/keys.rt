@@ -4,7 +4,7 @@ ghost use Rattle.std.specs.Prelude.{◌≡◌, ◌<◌, Bool, [], List, length, 
 use ml_bits::Bits;
 
 /// A list of keys that can be read at each place.
-pub trait Keys {
+pub(crate) trait Keys {
     /// The keys in their order.
     ghost keys: { Self → List (List Bool) };
 

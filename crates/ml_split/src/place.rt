@@ -9,13 +9,13 @@ use crate::Keys;
 use ml_bits::Bits;
 
 /// How many keys are looked at together at most: those of two regions of 31 items.
-pub const MOST_KEYS: usize = 62;
+pub(crate) const MOST_KEYS: usize = 62;
 
 /// Where keys are split: the new prefix is the first `bits` bits of the key at place `key`.
 #[derive(Clone, Copy, Debug, PartialEq, Eq)]
-pub struct SplitPlace {
-    pub key: usize,
-    pub bits: usize,
+pub(crate) struct SplitPlace {
+    pub(crate) key: usize,
+    pub(crate) bits: usize,
 }
 
 /// The keys that go on with one bit behind a prefix: how many there are, and the place of one, if there is one.
@@ -90,7 +90,7 @@ fn fork_of<K: Keys>(keys: &K, guide: &Bits, bits: usize) -> usize
 }
 
 /// Where keys are split that begin with a prefix. It takes no memory.
-pub fn split_place<K: Keys>(keys: &K, prefix: &Bits) -> SplitPlace
+pub(crate) fn split_place<K: Keys>(keys: &K, prefix: &Bits) -> SplitPlace
     requires some { 1 < length (K.keys keys.now) }
     requires few { length (K.keys keys.now) ≤ MOST_KEYS }
     requires apart { AreApart (K.keys keys.now) }

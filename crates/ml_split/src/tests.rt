@@ -4,7 +4,8 @@ ghost use Rattle.std.specs.List.{All};
 ghost use Rattle.ml_bits.specs.BitList.{Begins};
 ghost use Rattle.ml_split.specs.Splitting.{AreApart};
 
-use crate::{Keys, MOST_KEYS, split_place};
+use crate::Keys;
+use crate::place::{MOST_KEYS, split_place};
 use ml_bits::{Bits, OutOfMemory};
 use std::alloc::Global;
 use std::test::Fail;

@@ -1,0 +1,11 @@
+pub mod KeyOrder
+pub mod Owners
+pub mod Lists
+pub mod Listing
+pub mod Elements
+pub mod StoredRegions
+pub mod Placed
+pub mod Pages
+pub mod Standing
+pub mod Found
+pub mod Inserted

@@ -1,0 +1,17 @@
+use Rattle.std.proofs.Common.{◌≡◌, ℕ, ◌<◌, List, length, sym, ap, ◌∙◌, subst, arith}
+use Rattle.ml_region.specs.Listing.{Listing, prefix_at}
+use Rattle.ml_region.specs.Kept.{kept_entries}
+use Rattle.ml_region.specs.declared.kept.Kept.{Kept}
+use Rattle.ml_region.proofs.Elements.{entries_length, kept_prefix}
+use Rattle.ml_region.proofs.sorted_dir.SortedDirDirectory.prefix_at.Goals as goal
+
+pub returns-then-i-len : goal.returns-then-i-len
+returns-then-i-len c =
+    let items : List Kept = c.self.inside.kept.items in
+    let i : ℕ = c.args.i in
+    let entries : kept_entries items ≡ c.args.self.now.entries = ap (λ (v : Listing). v.entries) c.self.view_is in
+    let inside : i < length items = omega (arith, c.if-i-len.true, c.len.ensures, c.self.inside.kept.ok.0) in
+    let within : i < length (kept_entries items) = omega (arith, entries_length items) in (
+      subst (λ es. i < length es) entries within,
+      ap (λ (k : Kept). k.prefix.bits) c.index.ensures ∙ sym (kept_prefix items i c.index.result.now inside) ∙ ap (λ es. prefix_at es i) entries,
+    )

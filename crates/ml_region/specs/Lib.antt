@@ -1,0 +1,6 @@
+pub mod Prefixes
+pub mod Listing
+pub mod Kept
+pub mod Regions
+pub mod Stored
+pub mod Changes

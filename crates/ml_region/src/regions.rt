@@ -1,0 +1,124 @@
+//! The regions of a file, and what can be read of them.
+ghost use Rattle.std.specs.Prelude.{◌≡◌, ◌<◌, [], ◌∷◌, length, slice_index_or, IfOk, MatchOption};
+ghost use Rattle.ml_region.specs.Listing.{only_root};
+ghost use Rattle.ml_region.specs.Prefixes.{IsOwner, IsParent};
+ghost use Rattle.ml_region.specs.Regions.{HasNoKey, IsFound, IsWellPlaced, empty_region, items_at, region_at, region_prefixes};
+
+use crate::directory::{Directory, Slot};
+use crate::item::Item;
+use crate::page::Page;
+use crate::places::{place_of, slot_of};
+use ml_bits::{Bits, OutOfMemory};
+use std::alloc::Global;
+use std::marker::Model;
+
+/// The regions of one file: a directory of their prefixes and their pages, a page at its slot. Contracts see the regions in the order of their
+/// prefixes, each with its items, and the room that every prefix has. A region is named by its place in that order, from 0; the empty prefix has the
+/// place 0. They are well placed at all times.
+#[derive(Drop)]
+pub struct Regions<D: Directory> {
+    pub(crate) dir: D,
+    pub(crate) pages: Vec<Page>,
+    pub(crate) free: Vec<Slot>,
+}
+
+impl<D: Directory> Model for Regions<D> {
+    ghost use Rattle.std.specs.Prelude.{vec_capacity};
+    ghost use Rattle.std.specs.Coded.{codes};
+    ghost use Rattle.ml_region.specs.contracts.item.Item as item;
+    ghost use Rattle.ml_region.specs.Regions.{RegionList};
+
+    ghost Value = { RegionList };
+
+    ghost coded = { Prim.hlevel (codes, item.the_row.coded) };
+
+    ghost use Rattle.ml_region.specs.Stored.{IsStored, regions_of};
+
+    ghost view = { λ r. record { regions = regions_of (D.listing r.dir).entries r.pages.items; room = (D.listing r.dir).room } };
+
+    ghost invariant = { λ r. IsStored (D.listing r.dir).entries r.pages.items r.free.items (vec_capacity r.free) };
+}
+
+impl<D: Directory> Regions<D> {
+    /// One region without items.
+    pub fn new(alloc: Global, dir: D) -> Result<Regions<D>, OutOfMemory>
+        requires { (D.listing dir).entries ≡ only_root }
+        ensures { IfOk result (λ made. made ≡ record { regions = empty_region ∷ []; room = (D.listing dir).room }) }
+    {
+        let mut pages = Vec::new(alloc);
+        pages.push(Page::new(alloc)?)?;
+        let free = Vec::with_capacity(alloc, 1)?;
+        Ok(Regions { dir, pages, free })
+    }
+
+    /// How many regions there are.
+    pub fn len(&self) -> usize
+        ensures length { result ≡ length self.now.regions }
+        ensures well_placed { IsWellPlaced self.now.regions }
+    {
+        self.pages.len() - self.free.len()
+    }
+
+    /// The prefix of a region.
+    pub fn prefix(&self, i: usize) -> &Bits
+        requires { i < length self.now.regions }
+        ensures { result.now.bits ≡ (region_at self.now.regions i).prefix }
+    {
+        match self.dir.prefix_at(i) {
+            Some(prefix) => prefix,
+            None => unreachable!(),
+        }
+    }
+
+    /// The page of a region.
+    fn page(&self, i: usize) -> &Page
+        requires { i < length self.now.regions }
+        ensures { result.now ≡ items_at self.now.regions i }
+    {
+        &self.pages[slot_of(&self.dir, i)]
+    }
+
+    /// How many items a region has.
+    pub fn count(&self, i: usize) -> usize
+        requires { i < length self.now.regions }
+        ensures { result ≡ length (items_at self.now.regions i) }
+    {
+        self.page(i).len()
+    }
+
+    /// An item of a region, by its place in key order.
+    pub fn item(&self, i: usize, j: usize) -> &Item
+        requires region { i < length self.now.regions }
+        requires item { j < length (items_at self.now.regions i) }
+        ensures { result.now ≡ slice_index_or (items_at self.now.regions i) j result.now }
+    {
+        self.page(i).item(j)
+    }
+
+    /// The region that owns a key: the one with the longest prefix that begins it.
+    pub fn owner_of(&self, key: &Bits) -> usize
+        ensures { IsOwner (region_prefixes self.now.regions) key.now.bits result }
+    {
+        place_of(&self.dir, self.len(), self.dir.owner(key))
+    }
+
+    /// The parent of a region: the one with the longest shorter prefix that begins its own. The empty prefix alone has none.
+    pub fn parent_of(&self, i: usize) -> Option<usize>
+        requires { i < length self.now.regions }
+        ensures { MatchOption result (i ≡ 0)
+            (λ parent. IsParent (region_prefixes self.now.regions) (region_at self.now.regions i).prefix parent) }
+    {
+        let slot = self.dir.parent(self.prefix(i))?;
+        Some(place_of(&self.dir, self.len(), slot))
+    }
+
+    /// The item that has a key. There is none exactly where no item has it.
+    pub fn find(&self, key: &Bits) -> Option<&Item>
+        ensures { MatchOption result (HasNoKey self.now.regions key.now.bits)
+            (λ item. IsFound self.now.regions key.now.bits item.now) }
+    {
+        let page = &self.pages[self.dir.owner(key)];
+        let j = page.find(key)?;
+        Some(page.item(j))
+    }
+}

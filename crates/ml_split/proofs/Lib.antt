@@ -1,0 +1,5 @@
+pub mod Counting
+pub mod Walking
+pub mod Parting
+pub mod RegionKeys
+pub mod Meeting

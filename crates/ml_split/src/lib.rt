@@ -1,0 +1,18 @@
+//! Where a region is split, and that it is split fairly.
+//! It stands on nested regions (`ml_region`), their keys (`ml_key`) and bit lists (`ml_bits`); the rule is stated in `specs/Splitting.antt`, over a list
+//! of keys. The layer above may use all public calls.
+//! What carries it: a prefix that begins more than two thirds of the keys lies on the rule's way.
+#![tactic(auto)]
+
+mod keys;
+pub mod laws;
+mod place;
+mod region_keys;
+pub mod rows;
+mod split;
+#[cfg(test)]
+mod tests;
+
+pub(crate) use keys::Keys;
+pub use ml_bits::OutOfMemory;
+pub use split::split_prefix;

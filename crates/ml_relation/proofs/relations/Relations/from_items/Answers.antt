@@ -1,0 +1,15 @@
+use Rattle.std.proofs.Common.{sym, ap, ◌∙◌, subst}
+use Rattle.ml_relation.specs.Items.{AreSized, in_order, items_seen}
+use Rattle.ml_relation.proofs.Gathering.{all_items, are_sized, ordered}
+use Rattle.ml_relation.proofs.relations.Relations.from_items.Goals as goal
+
+pub put_in_order-requires : goal.put_in_order-requires
+put_in_order-requires c =
+    let ds = c.args.decls.now in
+    let items = items_seen c.args.items.items in
+    subst (AreSized ds) (sym c.in_ok-unsorted.ensures) (are_sized ds items (all_items ds items c.requires.relations c.requires.items))
+
+pub returns : goal.returns
+returns c =
+    let ds = c.args.decls.now in
+    c.in_ok-lists.ensures ∙ ap (in_order ds) c.in_ok-unsorted.ensures ∙ ordered 0 ds (items_seen c.args.items.items) c.requires.relations

@@ -1,0 +1,9 @@
+-- Entries of sessions that all run over the same lists.
+use Rattle.std.specs.Prelude.{ℕ, Bool, List}
+use Rattle.ml_search.specs.Program.{Program, Script}
+use Rattle.ml_search.specs.Db.{Db}
+use Rattle.ml_search.specs.History.{Entry, ran, script_of}
+
+-- the entry of a session by its number and whether it found no memory
+abbrev pub entry_over : Program → Db → List Script → ℕ × Bool → Entry
+entry_over program db scripts o = record { number = o.0; ran = ran program (script_of scripts o.0) o.1 db }

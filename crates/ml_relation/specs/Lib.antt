@@ -1,0 +1,13 @@
+pub mod Below
+pub mod Matching
+pub mod KeyOrder
+pub mod Lists
+pub mod Items
+pub mod Calls
+pub mod Answering
+pub mod Courses
+pub mod Shown
+pub mod Telling
+pub mod Played
+pub mod Running
+pub mod Entries

@@ -1,7 +1,7 @@
 -- Where the parser's states are alike: in front of what follows an operand it doesn't tell reduced operators from waiting
 -- ones, nor a name from the atom or the operator that it turns out to be.
-use Rattle.std.specs.Prelude.{◌≡◌, ℕ, Bool, true, false, ◌||◌, ◌&&◌, not, IsTrue, nat_le, List, [], ◌∷◌, Option, Some, None, Ok, Err}
-use Rattle.std.proofs.Common.{refl, sym, ap, ◌∙◌, arith, true≢false}
+use Rattle.std.specs.Prelude.{◌≡◌, ℕ, Bool, true, false, ◌||◌, ◌&&◌, not, IsTrue, nat_le, List, [], ◌∷◌, Option, Some, None}
+use Rattle.std.proofs.Common.{refl, sym, ap, ◌∙◌, true≢false}
 use Rattle.ml_term.specs.Tree.{Tree, atom, compound_1, compound_2, no_trees}
 use Rattle.ml_reader.specs.Lexemes.{Lexeme, number, paren, unbracket, unbrace}
 use Rattle.ml_reader.specs.Operators.{Operator, prefix_of, is_operator, infix_at, closes, fits}

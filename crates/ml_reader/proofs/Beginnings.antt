@@ -7,8 +7,8 @@ use Rattle.ml_token.specs.declared.tokens.Token.{Token}
 use Rattle.ml_token.specs.declared.tokens.TokenFault.{TokenFault}
 use Rattle.ml_token.specs.declared.tokens.TokenKind.{TokenKind}
 use Rattle.ml_token.specs.declared.tokens.TokenKind.TheVariants.{Name, QuotedName, Variable, Number, Punct, End, Eof}
-use Rattle.ml_reader.specs.Lexemes.{Lexeme, name, unknown, number, paren, close, bracket, unbracket, brace, unbrace, bar, comma, end}
-use Rattle.ml_reader.specs.Tokens.{Context, lexeme, lexeme_of, behind, behind_kind, behind_variable, behind_named, find_name, is_anonymous, sign, first_sign, nothing_before, GoesOn, no_token, a_token}
+use Rattle.ml_reader.specs.Lexemes.{Lexeme, paren, close, bracket, unbracket, brace, unbrace, bar, comma, end}
+use Rattle.ml_reader.specs.Tokens.{Context, lexeme, lexeme_of, behind, behind_kind, behind_variable, behind_named, find_name, is_anonymous, sign, first_sign, GoesOn, no_token, a_token}
 use Rattle.ml_reader.specs.Faults.{IsNext}
 
 -- tokens and faults stand in the bytes

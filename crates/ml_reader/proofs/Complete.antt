@@ -1,10 +1,10 @@
 -- A term of the grammar, run through the parser, is the operand, and what stood below it stays: what is carried from a state
 -- to the next one, and between states that are alike, is carried over every term.
-use Rattle.std.specs.Prelude.{pos, neg_ℤ, ◌≡◌, ℕ, ◌≤◌, Bool, true, false, not, IsTrue, List, [], ◌∷◌, Some, Ok}
-use Rattle.std.proofs.Common.{refl, sym, ap, ◌∙◌, subst, arith}
+use Rattle.std.specs.Prelude.{pos, neg_ℤ, ◌≡◌, ℕ, Bool, true, false, not, IsTrue, List, [], ◌∷◌, Some, Ok}
+use Rattle.std.proofs.Common.{refl, ap, ◌∙◌, arith}
 use Rattle.ml_term.specs.Tree.{Tree, Trees, variable, integer, atom, compound, compound_1, compound_2, no_trees, tree}
-use Rattle.ml_reader.specs.Lexemes.{Written, written, Lexeme, name, unknown, number, paren, close, bracket, unbracket, brace, unbrace, bar, comma, end, onto, cell, cells, is_minus, brackets_name, braces_name}
-use Rattle.ml_reader.specs.Operators.{Operator, prefix_of, infix_at, closes, fits}
+use Rattle.ml_reader.specs.Lexemes.{Written, written, Lexeme, name, unknown, number, paren, close, bracket, unbracket, brace, unbrace, bar, comma, onto, cell, cells, is_minus, brackets_name, braces_name}
+use Rattle.ml_reader.specs.Operators.{Operator, prefix_of, infix_at, fits}
 use Rattle.ml_reader.specs.Grammar.{Word, plain, brackets, curlies, AtomBefore, joins, Derives, a_variable, a_number, a_negative, in_braces, an_atom, a_compound, in_parens, a_list, a_prefix, an_infix, Arguments, last_argument, argument, Elements, last_element, before_bar, element, IsText, no_clause, a_clause}
 use Rattle.ml_reader.specs.Parser.{before, between, parens, braces, arguments, elements, rest, Stack, root, ◌▹◌, State, want, fresh, word, have, Next, commas, limit, had_as, step, run, read}
 use Rattle.ml_reader.proofs.OperatorLaws.{infix_lawful, prefix_lawful, left_within, right_within}

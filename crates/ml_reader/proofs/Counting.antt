@@ -1,9 +1,6 @@
 -- A text has no more than half as many clauses as bytes.
-use Rattle.std.specs.Prelude.{◌≡◌, ◌≢◌, ℕ, ◌+◌, ◌*◌, ◌≤◌, ◌<◌, Bool, List, [], ◌∷◌, length, Ok}
-use Rattle.std.proofs.Common.{sym, ap, ◌∙◌, arith}
-use Rattle.ml_token.specs.Tokens.{first_token}
-use Rattle.ml_token.specs.declared.tokens.Token.{Token}
-use Rattle.ml_token.specs.declared.tokens.TokenKind.TheVariants.{Eof}
+use Rattle.std.specs.Prelude.{ℕ, ◌+◌, ◌*◌, ◌≤◌, Bool, List, length}
+use Rattle.std.proofs.Common.{arith}
 use Rattle.ml_term.specs.Tree.{Tree, Trees}
 use Rattle.ml_reader.specs.Lexemes.{Written, Lexeme}
 use Rattle.ml_reader.specs.Tokens.{Context, behind, nothing_before, Ends, the_end, one_more_token}

@@ -1,10 +1,10 @@
 -- A clause ends at an end alone.
-use Rattle.std.specs.Prelude.{◌≡◌, ℕ, Bool, true, false, ◌||◌, not, List, [], ◌∷◌, Option, Some, None, Ok, Err}
+use Rattle.std.specs.Prelude.{◌≡◌, ℕ, Bool, true, false, ◌||◌, not, List, [], ◌∷◌, Option, Some, None, Ok}
 use Rattle.std.proofs.Common.{refl}
 use Rattle.ml_term.specs.Tree.{Tree, atom, compound_1, compound_2, no_trees}
-use Rattle.ml_reader.specs.Lexemes.{Written, Mark, Lexeme, name, unknown, number, paren, close, bracket, unbracket, brace, unbrace, bar, comma, end}
+use Rattle.ml_reader.specs.Lexemes.{Mark, Lexeme, name, unknown, number, paren, close, bracket, unbracket, brace, unbrace, bar, comma, end}
 use Rattle.ml_reader.specs.Operators.{Operator, prefix_of, is_operator, infix_at, closes, fits}
-use Rattle.ml_reader.specs.Parser.{before, between, parens, braces, arguments, elements, rest, Stack, root, ◌▹◌, State, want, fresh, word, have, Next, commas, limit, ended, placed, tried, operated, had_as, had, wanted, after_bracket, put, prefixed, operand_or_prefix, after_word, step}
+use Rattle.ml_reader.specs.Parser.{before, between, parens, braces, arguments, elements, rest, Stack, root, ◌▹◌, State, want, fresh, word, have, Next, commas, limit, ended, placed, tried, operated, had_as, wanted, after_bracket, put, prefixed, operand_or_prefix, after_word, step}
 
 abbrev pub IsEnd : Lexeme → Type 0
 IsEnd x = (m : Mark) × (x ≡ end m)

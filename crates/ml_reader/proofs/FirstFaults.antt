@@ -1,29 +1,27 @@
 -- When a fault is a text's first one.
-use Rattle.std.specs.Prelude.{◌≡◌, ◌≢◌, ℕ, ◌+◌, ◌≤◌, ◌<◌, ◌⊎◌, Bool, true, false, ◌&&◌, not, IsTrue, nat_le, List, [], ◌∷◌, ◌++◌, length, Option, Some, None, Result, Ok, Err, is_some}
-use Rattle.std.proofs.Common.{refl, sym, ap, ◌∙◌, subst, arith, append_assoc, append-nil, true≢false, inl, inr}
+use Rattle.std.specs.Prelude.{◌≡◌, ◌≢◌, ℕ, ◌≤◌, ◌<◌, ◌⊎◌, true, false, List, [], ◌∷◌, ◌++◌, length, Result, Ok, Err}
+use Rattle.std.proofs.Common.{refl, sym, ap, ◌∙◌, subst, arith, append_assoc, true≢false, inl, inr}
 use Rattle.ml_token.specs.Tokens.{first_token}
 use Rattle.ml_token.specs.Values.{number_of}
 use Rattle.ml_token.specs.declared.tokens.Token.{Token}
 use Rattle.ml_token.specs.declared.tokens.TokenFault.{TokenFault}
 use Rattle.ml_token.specs.declared.tokens.TokenKind.TheVariants.{Number, Eof}
-use Rattle.ml_reader.specs.Lexemes.{Written, Mark, Lexeme, unknown, number, end}
-use Rattle.ml_reader.specs.Operators.{Operator, prefix_of, is_operator, closes}
-use Rattle.ml_reader.specs.Tokens.{Context, lexeme, behind, is_tight, nothing_before, GoesOn}
-use Rattle.ml_reader.specs.Grammar.{IsText, Viable, joins}
-use Rattle.ml_reader.specs.Parser.{root, Stack, State, want, fresh, word, have, Fault, Next, step, run, read}
+use Rattle.ml_reader.specs.Lexemes.{Written, Lexeme}
+use Rattle.ml_reader.specs.Tokens.{Context, lexeme, is_tight, nothing_before, GoesOn}
+use Rattle.ml_reader.specs.Grammar.{IsText, Viable}
+use Rattle.ml_reader.specs.Parser.{root, Stack, State, want, read}
 use Rattle.ml_reader.specs.Levels.{Level, in_argument, Wants}
-use Rattle.ml_reader.specs.Limits.{levels, opens_past, name_too_deep, makes_prefix}
+use Rattle.ml_reader.specs.Limits.{name_too_deep}
 use Rattle.ml_reader.specs.Faults.{kind_of, fault, rank, IsNext, MayBeNext, next, at_end, at_fault, AreOpen, EndsInMinus, FaultBehind, bad_token, too_deep, many_arguments, long_clause, large_number, clash, unexpected, cut_off, many_nodes, HasFault, HasFirstFault}
 use Rattle.ml_reader.specs.declared.fault.ReadFault.{ReadFault}
 use Rattle.ml_reader.specs.declared.fault.ReadKind.{ReadKind}
 use Rattle.ml_reader.specs.declared.fault.ReadKind.TheVariants.{TooDeep, ArityTooLarge, ClauseTooLong, NumberTooLarge, PriorityClash, Unexpected, TooManyNodes}
-use Rattle.ml_reader.specs.declared.limits.TheConstants.{MOST_LEVELS, MOST_ARGUMENTS, MOST_TOKENS, MOST_NODES, INTEGER_OFFSET}
-use Rattle.ml_reader.proofs.Following.{yes_op}
+use Rattle.ml_reader.specs.declared.limits.TheConstants.{MOST_LEVELS, MOST_ARGUMENTS, MOST_TOKENS, INTEGER_OFFSET}
 use Rattle.ml_reader.proofs.Open.{viable}
 use Rattle.ml_reader.proofs.InFront.{wants_before}
 use Rattle.ml_reader.proofs.Beginnings.{Stand, not_found, next_is, not_eof, behind_to, behind_last, goes_up, Last, last_token}
-use Rattle.ml_reader.proofs.Readings.{Reading, reading_viable, not_both, same_state, split_run}
-use Rattle.ml_reader.proofs.Quiet.{IsDeepName, DeepPath, deep_path, Where, pending, here, later, where_met, met_after}
+use Rattle.ml_reader.proofs.Readings.{Reading, reading_viable, same_state, split_run}
+use Rattle.ml_reader.proofs.Quiet.{IsDeepName, deep_path, Where, pending, here, later, where_met, met_after}
 
 -- the earlier of two places, or the same one with an earlier kind
 abbrev pub Comes : ℕ → ReadKind → ℕ → ReadKind → Type 0

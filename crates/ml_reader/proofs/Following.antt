@@ -1,6 +1,6 @@
 -- What may follow an operand, what begins a term, and when an infix operator is placed.
-use Rattle.std.specs.Prelude.{◌≡◌, ℕ, ◌<◌, ◌≤◌, Bool, true, false, ◌||◌, not, IsTrue, nat_le, List, [], ◌∷◌, Option, Some, None, is_some, Ok, Err}
-use Rattle.std.proofs.Common.{refl, sym, ap, ◌∙◌, arith, true≢false}
+use Rattle.std.specs.Prelude.{◌≡◌, ℕ, ◌<◌, ◌≤◌, Bool, true, false, ◌||◌, IsTrue, nat_le, List, [], ◌∷◌, Some, None, is_some, Ok, Err}
+use Rattle.std.proofs.Common.{refl, ap, ◌∙◌, arith}
 use Rattle.std.proofs.lemmas.Bool.{le-leb, leb-true}
 use Rattle.ml_term.specs.Tree.{Tree, Trees, compound_1, compound_2}
 use Rattle.ml_reader.specs.Lexemes.{Lexeme, name, unknown, number, paren, close, bracket, unbracket, brace, unbrace, bar, comma, end}

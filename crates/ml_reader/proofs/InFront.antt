@@ -1,18 +1,17 @@
 -- The levels that are open in front of a token are the parser's, and a bare `-` where a term begins is a state of its own.
-use Rattle.std.specs.Prelude.{◌≡◌, ℕ, ◌+◌, ◌≤◌, Bool, true, false, ◌&&◌, not, IsTrue, List, [], ◌∷◌, ◌++◌, Option, Some, None, codes, Ok, Err}
-use Rattle.std.specs.Str.{bytes_eq}
-use Rattle.std.proofs.Common.{refl, sym, ap, ◌∙◌, subst, arith, true≢false, append-nil}
+use Rattle.std.specs.Prelude.{◌≡◌, ℕ, Bool, true, false, ◌&&◌, not, IsTrue, List, [], ◌∷◌, ◌++◌, Option, Some, None, codes, Ok, Err}
+use Rattle.std.proofs.Common.{refl, sym, ap, ◌∙◌, subst, true≢false, append-nil}
 use Rattle.std.proofs.lemmas.Slice.Eq.{bytes_eq-Decides}
 use Rattle.ml_term.specs.Tree.{no_trees}
 use Rattle.ml_reader.specs.Lexemes.{Lexeme, name, number, paren, is_minus}
 use Rattle.ml_reader.specs.Operators.{Operator, prefix_of, is_operator, closes, fits}
 use Rattle.ml_reader.specs.Grammar.{Word, plain, brackets, curlies, joins}
 use Rattle.ml_reader.specs.Parser.{braces, elements, Stack, root, ◌▹◌, State, want, fresh, word, have, limit, Fault, Next, step, run, read}
-use Rattle.ml_reader.specs.Levels.{Level, greatest_inside, Wants, behind_brace, behind_bracket, behind_prefix}
+use Rattle.ml_reader.specs.Levels.{Level, Wants, behind_brace, behind_bracket, behind_prefix}
 use Rattle.ml_reader.specs.Limits.{joined}
 use Rattle.ml_reader.specs.Faults.{EndsInMinus}
 use Rattle.ml_reader.proofs.Paths.{opened, greatest_opened, fitted, prefix_path, path_before, Alike}
-use Rattle.ml_reader.proofs.Wanting.{same_some, Way, straight, at_bracket, at_brace, Reached, reach}
+use Rattle.ml_reader.proofs.Wanting.{same_some, Way, straight, at_bracket, at_brace, reach}
 use Rattle.ml_reader.proofs.Sound.{Holds, placed_in, read_holds}
 
 -- the levels in front of the last token of a run

@@ -1,6 +1,6 @@
 -- Runs of the parser that keep within the limits of levels, arguments, numbers and nodes.
-use Rattle.std.specs.Prelude.{◌≡◌, ℕ, ◌+◌, ◌≤◌, ◌<◌, ◌^◌, Bool, true, false, IsTrue, nat_le, List, [], ◌∷◌, length, Option, Some, None, Ok, Err}
-use Rattle.std.proofs.Common.{refl, sym, ap, ◌∙◌, subst}
+use Rattle.std.specs.Prelude.{◌≡◌, ◌≤◌, ◌<◌, ◌^◌, Bool, true, false, IsTrue, nat_le, List, [], ◌∷◌, length, Option, Some, None, Ok}
+use Rattle.std.proofs.Common.{sym, ◌∙◌, subst}
 use Rattle.ml_term.specs.Tree.{arity, nodes}
 use Rattle.ml_term.specs.Names.{is_name}
 use Rattle.ml_reader.specs.Lexemes.{Lexeme, name, unknown, number}

@@ -45,3 +45,5 @@ pub mod PartsKept
 pub mod OneReading
 pub mod Counting
 pub mod Settled
+pub mod RulesOrWrong
+pub mod RulesReadings

@@ -1,8 +1,6 @@
 -- What the loop over a text keeps.
-use Rattle.std.specs.Prelude.{◌≡◌, ◌≢◌, ℕ, ◌+◌, ◌≤◌, ◌<◌, ◌^◌, Bool, List, [], ◌∷◌, ◌++◌, length, map, Ok}
-use Rattle.std.specs.List.{AllByRecursion}
+use Rattle.std.specs.Prelude.{◌≡◌, ℕ, ◌≤◌, ◌<◌, ◌^◌, List, [], ◌∷◌, ◌++◌, length, map}
 use Rattle.std.proofs.Common.{refl, sym, ap, ◌∙◌, subst, arith, append-nil}
-use Rattle.ml_token.specs.declared.tokens.Token.{Token}
 use Rattle.ml_reader.specs.Lexemes.{Written, Lexeme, turned_onto}
 use Rattle.ml_reader.specs.Tokens.{Context, nothing_before}
 use Rattle.ml_reader.specs.Parser as P

@@ -1,14 +1,14 @@
 -- An operand and a name have no more levels open than what came before them.
-use Rattle.std.specs.Prelude.{◌≡◌, ℕ, ◌+◌, ◌≤◌, Bool, true, false, ◌&&◌, ◌||◌, not, IsTrue, List, [], ◌∷◌, length, Option, Some, None, Ok, Err}
+use Rattle.std.specs.Prelude.{◌≡◌, ℕ, ◌+◌, ◌≤◌, Bool, true, false, ◌&&◌, ◌||◌, not, List, [], ◌∷◌, Option, Some, None, Ok}
 use Rattle.std.proofs.Common.{refl, subst, arith, true≢false}
-use Rattle.ml_term.specs.Tree.{Tree, Trees, atom, compound_1, compound_2, no_trees, tree}
+use Rattle.ml_term.specs.Tree.{Tree, atom, compound_1, compound_2, no_trees, tree}
 use Rattle.ml_reader.specs.Lexemes.{Lexeme, name, unknown, number, paren, close, bracket, unbracket, brace, unbrace, bar, comma, end}
 use Rattle.ml_reader.specs.Operators.{Operator, prefix_of, is_operator, infix_at, closes, fits}
 use Rattle.ml_reader.specs.Grammar.{joins}
-use Rattle.ml_reader.specs.Parser.{before, between, parens, braces, arguments, elements, rest, Stack, root, ◌▹◌, State, want, fresh, word, have, Next, commas, limit, ended, placed, tried, operated, had_as, had, wanted, after_bracket, put, prefixed, operand_or_prefix, after_word, step}
+use Rattle.ml_reader.specs.Parser.{before, between, parens, braces, arguments, elements, rest, Stack, root, ◌▹◌, State, want, fresh, word, have, Next, commas, limit, ended, placed, tried, operated, had_as, wanted, after_bracket, put, prefixed, operand_or_prefix, after_word, step}
 use Rattle.ml_reader.specs.Limits.{depth, levels}
 use Rattle.ml_reader.specs.declared.limits.TheConstants.{MOST_LEVELS}
-use Rattle.ml_reader.proofs.Paths.{opened, length_opened, fitted, prefix_path, path_before}
+use Rattle.ml_reader.proofs.Paths.{length_opened, fitted, prefix_path, path_before}
 use Rattle.ml_reader.proofs.Keeping.{AreFew}
 
 -- how many levels a state has

@@ -1,17 +1,15 @@
 -- The variables of a clause are numbered from 0 by first place, and its names are theirs.
-use Rattle.std.specs.Prelude.{pos, neg_ℤ, ◌≡◌, ◌≢◌, ℕ, ◌+◌, ◌≤◌, ◌<◌, Bool, true, false, ◌&&◌, ◌||◌, not, if◌then◌else◌, IsTrue, nat_le, nat_lt, List, [], ◌∷◌, ◌++◌, length, drop, Option, Some, None, is_none, unwrap_or, Ok, codes}
+use Rattle.std.specs.Prelude.{◌≡◌, ℕ, ◌+◌, ◌≤◌, Bool, true, false, ◌&&◌, not, if◌then◌else◌, IsTrue, nat_le, nat_lt, List, [], ◌∷◌, ◌++◌, length, Option, Some, None, is_none, unwrap_or}
 use Rattle.std.specs.Str.{bytes_eq}
-use Rattle.std.specs.List.{list_all, AllByRecursion}
-use Rattle.std.proofs.Common.{refl, sym, ap, ◌∙◌, subst, arith, append_assoc, append-nil, length-append, true≢false}
-use Rattle.std.proofs.lemmas.Bool.{le-leb, leb-true, lt-ltb, ltb-true}
+use Rattle.std.specs.List.{list_all}
+use Rattle.std.proofs.Common.{refl, sym, ap, ◌∙◌, subst, arith, length-append, true≢false}
+use Rattle.std.proofs.lemmas.Bool.{le-leb, lt-ltb, ltb-true}
 use Rattle.std.proofs.lemmas.Slice.Eq.{bytes_eq-Decides}
 use Rattle.ml_term.specs.Tree.{has, firsts, counts_from}
 use Rattle.ml_term.specs.Names.{is_name}
-use Rattle.ml_token.specs.Values.{name_of}
 use Rattle.ml_token.specs.declared.tokens.Token.{Token}
 use Rattle.ml_reader.specs.Tokens.{Context, find_name, is_anonymous, variable_number, one_more, behind_variable, behind_named}
 use Rattle.ml_reader.specs.Texts.{are_different, rise_from}
-use Rattle.ml_reader.proofs.Beginnings.{if_either}
 use Rattle.ml_reader.proofs.Firsts.{first_more, counts_more, has_below, has_last, has_more}
 
 both : (a b : Bool) → IsTrue a → IsTrue b → IsTrue (a && b)

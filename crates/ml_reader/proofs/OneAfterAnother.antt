@@ -1,18 +1,16 @@
 -- Declarations of some clauses, one clause after another.
-use Rattle.std.specs.Prelude.{◌≡◌, ℕ, suc, ◌+◌, ◌<◌, ◌≤◌, true, IsTrue, IsSome, is_none, List, [], ◌∷◌, ◌++◌, length, map, take, drop, get_or, Option, Some, None, Result, Ok, Err}
+use Rattle.std.specs.Prelude.{◌≡◌, ℕ, suc, ◌+◌, ◌<◌, ◌≤◌, List, [], ◌∷◌, ◌++◌, length, map, take, drop, get_or, Option, Some, None, Result, Err}
 use Rattle.std.specs.List.{filter_map, cons_option, AllZip}
-use Rattle.std.proofs.Common.{refl, sym, ap, subst, ◌∙◌, arith, append_assoc}
+use Rattle.std.proofs.Common.{refl, sym, ap, subst, ◌∙◌, arith}
 use Rattle.std.proofs.Math.Seq.{drop-cons}
 use Rattle.std.proofs.lemmas.List.{append-nil, length_push, map-append, take_more, take-append-drop}
 use Rattle.ml_term.specs.Tree.{Tree}
 use Rattle.ml_term.specs.declared.declaration.Decl.{Decl}
-use Rattle.ml_search.specs.Program.{place_of}
 use Rattle.ml_search.proofs.Declaring.{once_more}
 use Rattle.ml_reader.specs.Lexemes.{Written}
 use Rattle.ml_reader.specs.Seen.{read_seen}
 use Rattle.ml_reader.specs.declared.lexeme.Read.{Read}
 use Rattle.ml_reader.specs.Declarations.{Declares}
-use Rattle.ml_reader.specs.Faults.{fault}
 use Rattle.ml_reader.specs.Forms.{Form, directive, query, rule, fact, form, directive_of, directives, ComesNext}
 use Rattle.ml_reader.specs.Rules.{Declare, RulesGoWrong, bad_declaration, declared_twice}
 use Rattle.ml_reader.specs.RulesSteps.{Becomes, no_directive, one_more, IsWrong, declares_nothing, declares_again}

@@ -1,26 +1,25 @@
 -- Clauses are rules of one program with one list of items, or go wrong first at one place.
-use Rattle.std.specs.Prelude.{◌≡◌, ◌⊎◌, ℕ, Bool, true, false, ◌&&◌, IsTrue, IsSome, is_some, is_none, List, [], ◌∷◌, ◌++◌, Option, Some, None}
+use Rattle.std.specs.Prelude.{◌≡◌, ℕ, Bool, true, IsSome, is_some, List, [], ◌∷◌, ◌++◌, Some, None}
 use Rattle.std.specs.List.{list_all, filter_map, cons_option, AllZip}
-use Rattle.std.proofs.Common.{refl, sym, ap, subst, ◌∙◌, append_assoc, inl, inr}
+use Rattle.std.proofs.Common.{refl, sym, ap, subst, ◌∙◌}
 use Rattle.std.proofs.lemmas.Bool.{and_parts, and_from, true≢false}
 use Rattle.std.proofs.Math.Bool.{Bool-set}
-use Rattle.std.proofs.lemmas.List.{append-nil}
 use Rattle.ml_term.specs.Tree.{Tree}
 use Rattle.ml_term.specs.Keys.{are_keys}
 use Rattle.ml_term.specs.declared.declaration.Decl.{Decl}
-use Rattle.ml_search.specs.Program.{Clause, Program, place_of}
+use Rattle.ml_search.specs.Program.{Program, place_of}
 use Rattle.ml_search.specs.WellFormed.{are_declared_once}
 use Rattle.ml_search.proofs.Declaring.{declared_before}
 use Rattle.ml_reader.specs.Lexemes.{Written}
 use Rattle.ml_reader.specs.Declarations.{Declares}
-use Rattle.ml_reader.specs.DeclarationSteps.{Said, said_by, said}
+use Rattle.ml_reader.specs.DeclarationSteps.{Said, said_by}
 use Rattle.ml_reader.specs.Faults.{fault}
-use Rattle.ml_reader.specs.Forms.{Form, directive, form, directive_of, directives, ComesNext}
+use Rattle.ml_reader.specs.Forms.{directive, form, directive_of, directives, ComesNext}
 use Rattle.ml_reader.specs.Rules.{Declare, Part, wrong, is_right, part, parts, clause_part, item_part, AreRules, RulesGoWrong, bad_declaration, declared_twice, wrong_clause}
 use Rattle.ml_reader.specs.declared.fault.ReadFault.{ReadFault}
 use Rattle.ml_reader.specs.declared.fault.ReadKind.{ReadKind}
 use Rattle.ml_reader.specs.declared.fault.ReadKind.TheVariants.{BadDeclaration, TwiceDeclared}
-use Rattle.ml_reader.proofs.OneAfterAnother.{filter_map-append, directive_is}
+use Rattle.ml_reader.proofs.OneAfterAnother.{filter_map-append}
 use Rattle.ml_reader.proofs.Spelled.{said_declared, same_some}
 
 -- which of two places in some clauses comes first

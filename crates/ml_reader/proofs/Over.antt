@@ -1,10 +1,10 @@
 -- The parser doesn't look at the clauses that were read before.
-use Rattle.std.specs.Prelude.{◌≡◌, ℕ, Bool, true, false, ◌||◌, not, nat_le, List, [], ◌∷◌, ◌++◌, Option, Some, None, Result, Ok, Err}
-use Rattle.std.proofs.Common.{refl, sym, ap, ◌∙◌, subst}
-use Rattle.ml_term.specs.Tree.{Tree, Trees, atom, integer, compound_1, compound_2, no_trees, tree}
-use Rattle.ml_reader.specs.Lexemes.{Written, written, Lexeme, name, unknown, number, paren, close, bracket, unbracket, brace, unbrace, bar, comma, end}
+use Rattle.std.specs.Prelude.{◌≡◌, ℕ, Bool, true, false, ◌||◌, not, List, ◌++◌, Option, Some, None, Ok, Err}
+use Rattle.std.proofs.Common.{refl, ap, ◌∙◌}
+use Rattle.ml_term.specs.Tree.{Tree, atom, compound_1, compound_2, no_trees}
+use Rattle.ml_reader.specs.Lexemes.{Written, Lexeme, name, unknown, number, paren, close, bracket, unbracket, brace, unbrace, bar, comma, end}
 use Rattle.ml_reader.specs.Operators.{Operator, prefix_of, is_operator, infix_at, closes, fits}
-use Rattle.ml_reader.specs.Parser.{Frame, before, between, parens, braces, arguments, elements, rest, Stack, root, ◌▹◌, State, want, fresh, word, have, Fault, clash, unexpected, Next, commas, limit, ended, placed, tried, operated, had_as, had, wanted, after_bracket, put, prefixed, operand_or_prefix, after_word, step}
+use Rattle.ml_reader.specs.Parser.{before, between, parens, braces, arguments, elements, rest, Stack, root, ◌▹◌, State, want, fresh, word, have, clash, Next, commas, limit, ended, placed, tried, operated, had_as, had, wanted, after_bracket, put, prefixed, operand_or_prefix, after_word, step}
 
 module _ (cs : List Written) where
   -- a stack with these clauses below those that it has

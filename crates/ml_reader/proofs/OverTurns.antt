@@ -1,17 +1,17 @@
 -- A turn over clauses that were read before is the turn over none.
-use Rattle.std.specs.Prelude.{◌≡◌, ℕ, ◌+◌, Bool, true, false, ◌&&◌, ◌||◌, not, nat_le, nat_lt, if◌then◌else◌, List, [], ◌∷◌, ◌++◌, length, Option, Some, None, Result, Ok, Err}
-use Rattle.std.proofs.Common.{refl, sym, ap, ◌∙◌, subst, arith}
+use Rattle.std.specs.Prelude.{◌≡◌, ℕ, ◌+◌, Bool, true, false, ◌&&◌, ◌||◌, not, nat_le, nat_lt, if◌then◌else◌, List, [], ◌∷◌, length, Option, Some, None, Result, Ok, Err}
+use Rattle.std.proofs.Common.{refl, ap, ◌∙◌}
 use Rattle.ml_token.specs.Tokens.{first_token}
 use Rattle.ml_token.specs.declared.tokens.Token.{Token}
 use Rattle.ml_token.specs.declared.tokens.TokenFault.{TokenFault}
 use Rattle.ml_reader.specs.Lexemes.{Written, Lexeme, number}
 use Rattle.ml_reader.specs.Operators.{Operator, prefix_of}
 use Rattle.ml_reader.specs.Tokens.{Context, lexeme, behind}
-use Rattle.ml_reader.specs.Parser.{before, between, parens, braces, arguments, elements, rest, Stack, root, ◌▹◌, State, want, fresh, word, have, Fault, clash, unexpected, Next, limit, step}
-use Rattle.ml_reader.specs.Frames.{has_many, few, refusal}
+use Rattle.ml_reader.specs.Parser.{before, between, parens, braces, arguments, elements, rest, Stack, root, ◌▹◌, State, want, fresh, word, have, clash, unexpected, Next, limit, step}
+use Rattle.ml_reader.specs.Frames.{has_many, few}
 use Rattle.ml_term.specs.Tree.{nodes}
 use Rattle.ml_reader.specs.Limits.{depth, levels, opens_past, name_too_deep, makes_prefix, joined, is_lone, Outcome, goes, late, stops, fault_at, sized, too_many, stopped, checked, limited}
-use Rattle.ml_reader.specs.Turns.{Turned, on, whole, wrong, is_eof, is_between, late_kind, stays_open, taken, here_at, ended, met, found, turned}
+use Rattle.ml_reader.specs.Turns.{Turned, on, whole, wrong, is_eof, is_between, late_kind, stays_open, taken, here_at, ended, found, turned}
 use Rattle.ml_reader.specs.Faults.{fault, kind_of}
 use Rattle.ml_reader.specs.declared.frames.Refusal.{Refusal}
 use Rattle.ml_reader.specs.declared.frames.Refusal.TheVariants.{ManyArguments}

@@ -1,8 +1,7 @@
 -- What clauses are keeps the facts of programs and of items.
-use Rattle.std.specs.Prelude.{◌≡◌, ℕ, ◌≤◌, ◌<◌, Bool, true, false, ◌&&◌, ◌||◌, not, ◌==◌, nat_le, nat_lt, cond, IsTrue, List, [], ◌∷◌, length, slice_get, Option, Some, None, is_none, codes}
-use Rattle.std.specs.List.{list_all, filter_map, cons_option, AllByRecursion}
-use Rattle.std.specs.Str.{bytes_eq}
-use Rattle.std.proofs.Common.{refl, sym, ap, ◌∙◌, subst, arith}
+use Rattle.std.specs.Prelude.{◌≡◌, ℕ, Bool, true, false, ◌&&◌, nat_le, cond, List, [], ◌∷◌, length, slice_get, Option, Some, None, is_none}
+use Rattle.std.specs.List.{filter_map, cons_option, AllByRecursion}
+use Rattle.std.proofs.Common.{refl, sym, ap, ◌∙◌}
 use Rattle.std.proofs.lemmas.Bool.{and_parts, and_from, le-leb, ltb-false, true≢false}
 use Rattle.ml_term.specs.Tree.{Tree, variable, integer, atom, compound, arity, is_ground, is_numbered}
 use Rattle.ml_term.specs.Valid.{is_valid}
@@ -14,7 +13,7 @@ use Rattle.ml_search.specs.Bodies.{is_callable}
 use Rattle.ml_search.specs.Db.{is_tuple, is_stored_clause, is_allowed}
 use Rattle.ml_search.specs.Known.{is_over_bytes}
 use Rattle.ml_search.specs.Limits.{most_bytes}
-use Rattle.ml_search.specs.Program.{Clause, name_of, arity_of, is_of, true_body, clause_term, has_predicate, place_of, holds_of, is_relation}
+use Rattle.ml_search.specs.Program.{name_of, arity_of, is_of, true_body, clause_term, has_predicate, holds_of, is_relation}
 use Rattle.ml_search.specs.WellFormed.{is_clause_head, are_undeclared}
 use Rattle.ml_search.proofs.Declaring.{declared_at, equal_swapped, names_swapped}
 use Rattle.ml_reader.specs.Lexemes.{Written}

@@ -1,6 +1,6 @@
 -- Which levels the parser has open in front of a token, and when two of its states are alike there.
-use Rattle.std.specs.Prelude.{◌≡◌, ℕ, ◌+◌, Bool, true, false, ◌||◌, ◌&&◌, not, IsTrue, List, [], ◌∷◌, length, Option, Some, None}
-use Rattle.std.proofs.Common.{refl, sym, ap, ◌∙◌, arith, true≢false}
+use Rattle.std.specs.Prelude.{◌≡◌, ◌+◌, Bool, true, false, List, [], ◌∷◌, length, Option, Some, None}
+use Rattle.std.proofs.Common.{refl, arith}
 use Rattle.ml_term.specs.Tree.{arity}
 use Rattle.ml_reader.specs.Lexemes.{Lexeme}
 use Rattle.ml_reader.specs.Operators.{Operator, prefix_of, fits}

@@ -1,18 +1,17 @@
 -- Where the parser has taken a text's beginning within the limits, the faults of the text stand behind it, or the name that
 -- it ends in is a prefix operator that opens a level past the limit.
-use Rattle.std.specs.Prelude.{◌≡◌, ◌≢◌, ℕ, ◌+◌, ◌≤◌, ◌<◌, Bool, true, false, ◌&&◌, not, IsTrue, nat_le, List, [], ◌∷◌, ◌++◌, length, Option, Some, None, Result, Ok, Err}
-use Rattle.std.proofs.Common.{refl, sym, ap, ◌∙◌, subst, arith, append_assoc, append-nil, true≢false}
-use Rattle.std.proofs.lemmas.Bool.{le-leb, leb-true, and_from, and_right}
+use Rattle.std.specs.Prelude.{◌≡◌, ℕ, ◌+◌, ◌≤◌, ◌<◌, Bool, true, false, ◌&&◌, not, IsTrue, nat_le, List, [], ◌∷◌, ◌++◌, length, Option, Some, None, Ok}
+use Rattle.std.proofs.Common.{refl, sym, ap, ◌∙◌, subst, arith, append_assoc, true≢false}
+use Rattle.std.proofs.lemmas.Bool.{le-leb, leb-true, and_from}
 use Rattle.ml_term.specs.Tree.{Trees, arity, nodes}
-use Rattle.ml_token.specs.Tokens.{first_token}
 use Rattle.ml_token.specs.Values.{number_of}
 use Rattle.ml_token.specs.declared.tokens.Token.{Token}
-use Rattle.ml_token.specs.declared.tokens.TokenKind.TheVariants.{Number, Eof}
+use Rattle.ml_token.specs.declared.tokens.TokenKind.TheVariants.{Number}
 use Rattle.ml_reader.specs.Lexemes.{Written, Mark, Lexeme, number, end}
-use Rattle.ml_reader.specs.Operators.{Operator, prefix_of, is_operator, closes, fits}
-use Rattle.ml_reader.specs.Tokens.{Context, lexeme, lexeme_of, behind, is_tight, nothing_before, GoesOn, no_token, a_token}
-use Rattle.ml_reader.specs.Grammar.{IsText, Viable, joins}
-use Rattle.ml_reader.specs.Parser.{before, between, parens, braces, arguments, elements, rest, root, Stack, ◌▹◌, State, want, fresh, word, have, limit, Next, step, run, read}
+use Rattle.ml_reader.specs.Operators.{Operator, prefix_of, fits}
+use Rattle.ml_reader.specs.Tokens.{Context, lexeme, lexeme_of, behind, is_tight, nothing_before, GoesOn}
+use Rattle.ml_reader.specs.Grammar.{IsText, Viable}
+use Rattle.ml_reader.specs.Parser.{arguments, root, Stack, ◌▹◌, State, want, fresh, word, have, limit, run, read}
 use Rattle.ml_reader.specs.Levels.{Level, in_argument, right_of, Wants}
 use Rattle.ml_reader.specs.Limits.{depth, levels, opens_past, name_too_deep, makes_prefix, joined, is_lone}
 use Rattle.ml_reader.specs.Texts.{are_short}
@@ -26,7 +25,7 @@ use Rattle.ml_reader.proofs.Complete.{reads, back}
 use Rattle.ml_reader.proofs.Wanting.{same_some}
 use Rattle.ml_reader.proofs.InFront.{path_of_wants, ends_in_minus}
 use Rattle.ml_reader.proofs.Keeping.{AreFew, is_moderate, Fine, Kept, kept_head}
-use Rattle.ml_reader.proofs.Beginnings.{Stand, same_token, not_found, next_is, not_eof, behind_to, behind_last, Along, same, longer, shorter, along, goes_up, counted, goes_nowhere, First, first_of_them}
+use Rattle.ml_reader.proofs.Beginnings.{Stand, not_found, next_is, not_eof, behind_to, behind_last, Along, same, longer, shorter, along, goes_up, counted, goes_nowhere, First, first_of_them}
 use Rattle.ml_reader.proofs.Readings.{Reading, reading_few, same_state, one_more, short_at, KeptAt, kept_at, split_run}
 
 -- levels past the limit in front of a token are those of a name that is a prefix operator there

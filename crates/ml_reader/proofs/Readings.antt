@@ -1,19 +1,18 @@
 -- What holds of a text's beginning that the parser has taken within the limits.
-use Rattle.std.specs.Prelude.{◌≡◌, ◌≢◌, ℕ, ◌+◌, ◌≤◌, ◌<◌, Bool, true, false, ◌&&◌, IsTrue, nat_le, nat_lt, List, [], ◌∷◌, ◌++◌, length, Option, Some, None, Result, Ok, Err}
-use Rattle.std.proofs.Common.{refl, sym, ap, ◌∙◌, subst, arith, append_assoc, append-nil, true≢false}
+use Rattle.std.specs.Prelude.{◌≡◌, ℕ, ◌+◌, ◌≤◌, ◌<◌, Bool, true, false, ◌&&◌, IsTrue, nat_lt, List, [], ◌∷◌, ◌++◌, Ok, Err}
+use Rattle.std.proofs.Common.{refl, sym, ap, ◌∙◌, subst, arith, true≢false}
 use Rattle.std.proofs.lemmas.Bool.{lt-ltb, ltb-true}
-use Rattle.ml_reader.specs.Lexemes.{Written, Lexeme, end}
-use Rattle.ml_reader.specs.Tokens.{Context, lexeme, behind, nothing_before, GoesOn, no_token}
+use Rattle.ml_reader.specs.Lexemes.{Lexeme, end}
+use Rattle.ml_reader.specs.Tokens.{Context, nothing_before, GoesOn, no_token}
 use Rattle.ml_reader.specs.Grammar.{Viable}
-use Rattle.ml_reader.specs.Parser.{root, Stack, State, want, fresh, word, have, Fault, Next, step, run, read}
+use Rattle.ml_reader.specs.Parser.{root, State, want, Fault, Next, step, run, read}
 use Rattle.ml_reader.specs.Texts.{are_short}
-use Rattle.ml_reader.specs.Faults.{IsNext}
 use Rattle.ml_reader.specs.Limits.{levels}
 use Rattle.ml_reader.specs.declared.limits.TheConstants.{MOST_LEVELS, MOST_TOKENS}
 use Rattle.ml_reader.proofs.Open.{run_append, viable}
 use Rattle.ml_reader.proofs.Keeping.{Fine, Kept, done, kept}
 use Rattle.ml_reader.proofs.Lows.{height, levels_low}
-use Rattle.ml_reader.proofs.Beginnings.{count, goes_further, counted}
+use Rattle.ml_reader.proofs.Beginnings.{count, counted}
 
 -- the parser has taken the tokens xs within the limits and stands in s, and the next token finds c before it
 pub record Reading (bytes : List ℕ) (xs : List Lexeme) (c : Context) (s : State) : Type 0 where

@@ -1,19 +1,19 @@
 -- The goals that stand in clauses: those whose term is callable are well formed.
-use Rattle.std.specs.Prelude.{◌≡◌, ℕ, ◌+◌, ◌<◌, Bool, true, ◌&&◌, nat_le, List, [], ◌∷◌, map, Option, Some, None}
+use Rattle.std.specs.Prelude.{◌≡◌, ℕ, ◌+◌, ◌<◌, true, ◌&&◌, nat_le, List, [], ◌∷◌, map, Some}
 use Rattle.std.specs.List.{list_all}
-use Rattle.std.proofs.Common.{refl, sym, ap, subst, ◌∙◌, arith, append-nil}
+use Rattle.std.proofs.Common.{refl, ap, subst, ◌∙◌, arith, append-nil}
 use Rattle.std.proofs.lemmas.Bool.{and_parts, and_from, leb-true, lt-ltb}
 use Rattle.ml_term.specs.Seen.{seen, all_seen}
 use Rattle.ml_term.specs.declared.term.Term.{Term}
 use Rattle.ml_term.specs.declared.term.Term.TheVariants.{Cmp}
 use Rattle.ml_term.proofs.Views.{seen_compound}
-use Rattle.ml_term.specs.Tree.{Tree, Trees, compound, compound_1, no_trees, tree, trees_of, variables, has, firsts, counts_from, is_numbered}
-use Rattle.ml_term.specs.Valid.{is_valid, are_valid}
+use Rattle.ml_term.specs.Tree.{Tree, compound, compound_1, trees_of, variables, has, firsts, counts_from, is_numbered}
+use Rattle.ml_term.specs.Valid.{is_valid}
 use Rattle.ml_term.specs.Names.{is_name}
 use Rattle.ml_search.specs.Bodies.{is_callable}
 use Rattle.ml_search.specs.WellFormed.{is_goal, are_rising}
 use Rattle.ml_reader.specs.Lexemes.{Written}
-use Rattle.ml_reader.specs.ScriptItems.{Item, other, IsGoalIfCallable, goal_of, only_tree, directed, item_of}
+use Rattle.ml_reader.specs.ScriptItems.{IsGoalIfCallable, goal_of, only_tree}
 use Rattle.ml_reader.specs.Texts.{IsWellRead, rise_from}
 
 -- numbers that rise by steps

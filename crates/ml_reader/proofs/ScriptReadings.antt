@@ -1,19 +1,21 @@
 -- A text is at most one script, and has at most one first fault as a script, but not both.
-use Rattle.std.specs.Prelude.{◌≡◌, ℕ, List}
-use Rattle.std.proofs.Common.{sym, ap, subst}
+use Rattle.std.specs.Prelude.{◌≡◌, ◌⊎◌, ◌<◌, ◌^◌, ℕ, List, length}
+use Rattle.std.proofs.Common.{ap, subst, inl, inr}
 use Rattle.ml_token.proofs.Fits.{first-stands, first-fails}
 use Rattle.ml_search.specs.Program.{Script}
-use Rattle.ml_reader.specs.Faults.{fault}
+use Rattle.ml_reader.specs.Faults.{fault, HasFirstFault}
 use Rattle.ml_reader.specs.Lexemes.{Written}
 use Rattle.ml_reader.specs.Scripts.{IsScriptOf, IsFirstWrong}
+use Rattle.ml_reader.specs.Texts.{IsRead}
 use Rattle.ml_reader.specs.ScriptTexts.{IsScript, HasScriptFault, no_text, wrong_clause}
 use Rattle.ml_reader.specs.declared.fault.ReadFault.{ReadFault}
 use Rattle.ml_reader.specs.declared.fault.ReadKind.TheVariants.{BadScriptItem}
 use Rattle.ml_reader.proofs.Beginnings.{Stand}
-use Rattle.ml_reader.proofs.TextLaws.{read_once, read_without_fault, one_first_fault}
-use Rattle.ml_reader.proofs.ScriptRuns.{only_script, only_wrong, script_or_wrong}
+use Rattle.ml_reader.proofs.TextLaws.{read_once, read_without_fault, one_first_fault, every_text}
+use Rattle.ml_reader.proofs.ScriptRuns.{only_script, only_wrong, script_or_wrong, script_unless_wrong}
 
-stand : (bytes : List ℕ) → Stand bytes
+-- a text's tokens and their faults stand in it
+pub stand : (bytes : List ℕ) → Stand bytes
 stand bytes = record { token = first-stands bytes; fault = first-fails bytes }
 
 pub one_script : (bytes : List ℕ) (s t : Script) → IsScript bytes s → IsScript bytes t → s ≡ t
@@ -29,3 +31,15 @@ one_fault bytes f g (no_text h) (wrong_clause {cs = cs} r k) = absurd (read_with
 one_fault bytes f g (wrong_clause {cs = cs} r h) (no_text k) = absurd (read_without_fault bytes (stand bytes) cs k.met g r k.there)
 one_fault bytes f g (wrong_clause {cs = cs} {w = v} r h) (wrong_clause {cs = ds} {w = w} s k) =
     ap (λ w. fault BadScriptItem w.place) (only_wrong ds v w (subst (λ cs. IsFirstWrong cs v) (read_once bytes cs ds r s) h) k)
+
+pub script_or_fault : (bytes : List ℕ) → length bytes < 2 ^ 32 → ((s : Script) × IsScript bytes s) ⊎ ((f : ReadFault) × HasScriptFault bytes f)
+script_or_fault bytes short = by (every_text bytes (stand bytes) short)
+  where
+    of_clauses : (cs : List Written) → IsRead bytes cs → ((s : Script) × IsScriptOf cs s) ⊎ ((w : Written) × IsFirstWrong cs w)
+        → ((s : Script) × IsScript bytes s) ⊎ ((f : ReadFault) × HasScriptFault bytes f)
+    of_clauses cs read (inl h) = inl (h.0, record { clauses = cs; read = read; script = h.1 })
+    of_clauses cs read (inr h) = inr (fault BadScriptItem h.0.place, wrong_clause read h.1)
+
+    by : ((cs : List Written) × IsRead bytes cs) ⊎ ((f : ReadFault) × HasFirstFault bytes f) → ((s : Script) × IsScript bytes s) ⊎ ((f : ReadFault) × HasScriptFault bytes f)
+    by (inl h) = of_clauses h.0 h.1 (script_unless_wrong h.0)
+    by (inr h) = inr (h.0, no_text h.1)

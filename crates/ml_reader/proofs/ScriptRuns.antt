@@ -1,13 +1,13 @@
 -- The run over the clauses gives exactly the script that they are, and else the first of them with which no script goes on.
 use Rattle.std.specs.Prelude.{◌≡◌, ℕ, ◌≤◌, ◌⊎◌, List, [], ◌∷◌, ◌++◌, Option, Some, None, Result, Ok, Err, length, map}
-use Rattle.std.proofs.Common.{refl, sym, inl, inr, ap, subst, ◌∙◌, arith, append_assoc, append-nil, length-append}
+use Rattle.std.proofs.Common.{refl, sym, inl, inr, ap, subst, ◌∙◌, arith, append_assoc, append-nil}
 use Rattle.std.proofs.lemmas.List.{nil_from_length}
 use Rattle.ml_search.specs.Program.{Goal, Last, commit, abort, unless, Script}
 use Rattle.ml_search.specs.declared.limits.TheConstants.{MOST_INFERENCES, GIVEN_INFERENCES}
 use Rattle.ml_reader.specs.Lexemes.{Written}
 use Rattle.ml_reader.specs.Scripts as S
 use Rattle.ml_reader.specs.Scripts.{IsEnd, AreGoals, no_goal, a_goal, IsScriptOf, no_budget, BeginsScript, IsFirstWrong}
-use Rattle.ml_reader.specs.ScriptItems.{Item, budget, query, ending, other, item, Draft, nothing, begun, whole, script, added, finished, run}
+use Rattle.ml_reader.specs.ScriptItems.{Item, item, Draft, nothing, begun, whole, script, added, finished, run}
 use Rattle.ml_reader.proofs.ScriptViews.{View, a_budget, a_query, an_abort, a_condition, no_item, viewed, budget_item, query_item, abort_item, condition_item}
 
 -- the next clause is added, or it is the first that can't be

@@ -1,5 +1,5 @@
 -- A text has fewer clauses than half of its bytes: each takes a token for its term and one for its end.
-use Rattle.std.specs.Prelude.{◌≡◌, ℕ, ◌+◌, ◌*◌, ◌≤◌, ◌<◌, Bool, List, [], ◌∷◌, length}
+use Rattle.std.specs.Prelude.{ℕ, ◌+◌, ◌*◌, ◌≤◌, ◌<◌, Bool, List, length}
 use Rattle.std.proofs.Common.{arith}
 use Rattle.ml_term.specs.Tree.{Tree, Trees}
 use Rattle.ml_token.proofs.Fits.{first-stands}

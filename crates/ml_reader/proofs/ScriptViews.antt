@@ -1,16 +1,16 @@
 -- What a clause is in a script, by the facts that say so.
 use Rattle.std.specs.Prelude.{pos, negsuc, ◌≡◌, ℕ, Bool, true, false, ◌&&◌, nat_le, List, codes}
 use Rattle.std.specs.Str.{bytes_eq}
-use Rattle.std.proofs.Common.{refl, sym, ap, ◌∙◌, arith}
+use Rattle.std.proofs.Common.{refl, sym, ap, ◌∙◌}
 use Rattle.std.proofs.lemmas.Bool.{and_parts, and_from, le-leb, leb-true}
 use Rattle.std.proofs.lemmas.Slice.Eq.{bytes_eq-Decides}
 use Rattle.ml_term.specs.Tree.{Tree, variable, integer, atom, compound, compound_1, no_trees, tree}
 use Rattle.ml_search.specs.Bodies.{is_callable}
-use Rattle.ml_search.specs.Program.{Goal, Last, abort, unless}
+use Rattle.ml_search.specs.Program.{Goal, abort, unless}
 use Rattle.ml_search.specs.declared.limits.TheConstants.{MOST_INFERENCES}
 use Rattle.ml_reader.specs.Lexemes.{Written}
 use Rattle.ml_reader.specs.Scripts.{directive, IsBudget, IsQuery, IsAbort, IsCondition}
-use Rattle.ml_reader.specs.ScriptItems.{Item, budget, query, ending, other, only_if, goal_of, budget_of, query_of, condition_of, named, directed, prefixed, item_of, item}
+use Rattle.ml_reader.specs.ScriptItems.{Item, budget, query, ending, other, only_if, goal_of, budget_of, named, directed, prefixed, item_of, item}
 
 -- the clause is this item
 pub data View (w : Written) : Item → Type 0 where

@@ -1,10 +1,10 @@
 -- The forms of terms by how many arguments they have.
-use Rattle.std.specs.Prelude.{◌≡◌, ◌≢◌, ℕ, Bool, true, false, cond, List, [], ◌∷◌, length, Some, None, codes}
+use Rattle.std.specs.Prelude.{◌≡◌, ◌≢◌, ℕ, Bool, true, false, cond, List, [], ◌∷◌, length, None, codes}
 use Rattle.std.specs.Str.{bytes_eq}
 use Rattle.std.proofs.Common.{refl, ap, ◌∙◌}
 use Rattle.ml_term.specs.Tree.{Tree, compound, compound_1, compound_2, trees_of}
 use Rattle.ml_reader.specs.Forms.{form, directive, query, rule, fact, directive_of}
-use Rattle.ml_reader.specs.DeclarationSteps.{predicate, cell, said, named_by, plainly_of, with_keys_of, kind_of}
+use Rattle.ml_reader.specs.DeclarationSteps.{predicate, cell, said, plainly_of, with_keys_of, kind_of}
 
 pub one_fact : (f : List ℕ) (ts : List Tree) → length ts ≡ 1 → bytes_eq (codes ":-") f ≡ false → bytes_eq (codes "?-") f ≡ false
     → form (compound f (trees_of ts)) ≡ fact (compound f (trees_of ts))

@@ -1,5 +1,5 @@
 -- Clauses of rules that are put where they belong, one after another.
-use Rattle.std.specs.Prelude.{◌≡◌, ℕ, Bool, true, ◌&&◌, IsTrue, List, [], ◌∷◌, ◌++◌, Option, Some, None}
+use Rattle.std.specs.Prelude.{◌≡◌, ℕ, Bool, true, IsTrue, List, [], ◌∷◌, ◌++◌}
 use Rattle.std.specs.List.{list_all, filter_map, cons_option, AllByRecursion}
 use Rattle.std.proofs.Common.{refl, sym, ap, ◌∙◌, subst, append_assoc}
 use Rattle.std.proofs.lemmas.Bool.{and_parts, and_from}
@@ -9,7 +9,7 @@ use Rattle.ml_term.specs.declared.declaration.Decl.{Decl}
 use Rattle.ml_search.specs.Program.{Clause}
 use Rattle.ml_reader.specs.Lexemes.{Written}
 use Rattle.ml_reader.specs.Forms.{form, ComesNext}
-use Rattle.ml_reader.specs.Rules.{Declare, Part, is_right, clause_part, item_part, part, parts, AreRules, RulesGoWrong, wrong_clause}
+use Rattle.ml_reader.specs.Rules.{Declare, is_right, clause_part, item_part, part, parts, AreRules, RulesGoWrong, wrong_clause}
 use Rattle.ml_reader.specs.RulesSteps.{GoesIn, IsWrongUnder}
 use Rattle.ml_reader.specs.Texts.{IsWellRead}
 use Rattle.ml_reader.specs.declared.fault.ReadFault.{ReadFault}
@@ -27,11 +27,11 @@ pub record SoFar (cs : List Written) (ds : List Decl) (rest : List Written) (cla
 pub nothing_yet : (cs : List Written) (ds : List Decl) → AllByRecursion IsWellRead cs → SoFar cs ds cs [] []
 nothing_yet cs ds h = record { before = []; whole = refl; right = refl; in_program = refl; in_lists = refl; well_read = h }
 
-list_all-both : {A : Type 0} (p : A → Bool) (xs ys : List A) → list_all p xs ≡ true → list_all p ys ≡ true → list_all p (xs ++ ys) ≡ true
+pub list_all-both : {A : Type 0} (p : A → Bool) (xs ys : List A) → list_all p xs ≡ true → list_all p ys ≡ true → list_all p (xs ++ ys) ≡ true
 list_all-both p [] ys e f = f
 list_all-both p (x ∷ xs) ys e f = let parts = and_parts (p x) (list_all p xs) e in and_from _ _ parts.0 (list_all-both p xs ys parts.1 f)
 
-parts_more : (ds : List Decl) (before : List Written) (c : Written) → parts ds (before ++ c ∷ []) ≡ parts ds before ++ cons_option (part ds (form c.term)) []
+pub parts_more : (ds : List Decl) (before : List Written) (c : Written) → parts ds (before ++ c ∷ []) ≡ parts ds before ++ cons_option (part ds (form c.term)) []
 parts_more ds before c = filter_map-append (λ c. part ds (form c.term)) before (c ∷ [])
 
 pub one_clause_more : (cs : List Written) (ds : List Decl) (c : Written) (rest : List Written) (clauses more : List Clause) (items further : List (ℕ × Tree))

@@ -1,10 +1,10 @@
 -- What a term declares when it is taken apart is what it declares as it is put together.
-use Rattle.std.specs.Prelude.{◌≡◌, ◌⊎◌, ℕ, ◌≤◌, nat_le, ℤ, pos, negsuc, Bool, true, false, ◌&&◌, not, cond, IsTrue, List, [], ◌∷◌, ◌++◌, map, length, Option, Some, None, MatchOption, option_map, codes}
+use Rattle.std.specs.Prelude.{◌≡◌, ◌⊎◌, ℕ, ◌≤◌, nat_le, ℤ, pos, negsuc, Bool, true, false, ◌&&◌, not, cond, IsTrue, List, [], ◌∷◌, ◌++◌, Option, Some, None, MatchOption, option_map, codes}
 use Rattle.std.specs.List.{list_all}
 use Rattle.std.specs.Str.{bytes_eq}
 use Rattle.std.specs.Cmp.Lexicographic.{bytes_decides}
 use Rattle.std.proofs.Common.{refl, sym, ap, ◌∙◌, arith, inl, inr, append_assoc}
-use Rattle.std.proofs.lemmas.Bool.{and_parts, and_from, leb-true, le-leb, true≢false}
+use Rattle.std.proofs.lemmas.Bool.{and_parts, and_from, leb-true, le-leb}
 use Rattle.ml_term.specs.Tree.{Tree, variable, integer, atom, compound, no_trees, tree, compound_1, compound_2}
 use Rattle.ml_term.specs.Keys.{are_keys, are_different, default_keys}
 use Rattle.ml_term.specs.declared.declaration.Decl.{Decl}
@@ -213,6 +213,39 @@ first_number (compound f (tree t (tree w (tree x ts)))) u v k e is = cc e
 pub one_number_further : (ns : List ℕ) (k : ℕ) (r : Option (List ℕ)) → option_map (λ ks. (ns ++ k ∷ []) ++ ks) r ≡ option_map (λ ks. ns ++ ks) (option_map (λ ks. k ∷ ks) r)
 one_number_further ns k None = refl
 one_number_further ns k (Some ks) = ap Some (append_assoc ns (k ∷ []) ks)
+
+-- what a term says fits
+said_fits : (t : Tree) (s : Said) → said t ≡ Some s → fits s ≡ true
+said_fits (variable m) s e = cc e
+said_fits (integer z) s e = cc e
+said_fits (atom f) s e = cc e
+said_fits (compound f no_trees) s e = cc e
+said_fits (compound f (tree t no_trees)) s e = by (kind_of f) e
+  where
+    by : (k : Option Kind) → plainly_of k t ≡ Some s → fits s ≡ true
+    by None h = cc h
+    by (Some k) h = (plainly_is k (predicate t) s h).3
+said_fits (compound f (tree t (tree u no_trees))) s e = by (kind_of f) e
+  where
+    by : (k : Option Kind) → with_keys_of k t u ≡ Some s → fits s ≡ true
+    by None h = cc h
+    by (Some k) h = (with_keys_is k (predicate t) (numbers u) s h).3
+said_fits (compound f (tree t (tree u (tree v ts)))) s e = cc e
+
+-- a term declares something, or nothing
+pub data Says (t : Tree) : Type 0 where
+  declares_it : (d : Decl) → Declares t d → Says t
+  declares_none : ((d : Decl) → Declares t d → ⊥) → Says t
+
+pub says : (t : Tree) → Says t
+says t = by (said t) refl
+  where
+    by : (r : Option Said) → said t ≡ r → Says t
+    by None e = declares_none (λ d h. cc (sym e ∙ said_declared t d h))
+    by (Some s) e =
+        let keyed : are_keys s.pred.arity s.keys ≡ true = (and_parts (are_keys s.pred.arity s.keys) _ (said_fits t s e)).0 in
+        let d : Decl = record { pred = s.pred; kind = s.kind; keys = s.keys; keyed = keyed } in
+        declares_it d (declared_said t d e)
 
 -- a declaration that says what the term says is the one that it declares, and where it says nothing it declares nothing
 pub both_ways : (t : Tree) (r : Option Decl) → option_map said_by r ≡ said t → MatchOption r ((d : Decl) → Declares t d → ⊥) (Declares t)

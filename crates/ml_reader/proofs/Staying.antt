@@ -1,23 +1,23 @@
 -- The parser keeps within the limits on a text that does.
-use Rattle.std.specs.Prelude.{pos, neg_ℤ, ◌≡◌, ℕ, ◌+◌, ◌≤◌, ◌<◌, max, Bool, true, false, ◌&&◌, not, IsTrue, nat_le, nat_lt, List, [], ◌∷◌, length, Some, codes, Ok}
+use Rattle.std.specs.Prelude.{pos, ◌≡◌, ℕ, ◌+◌, ◌≤◌, Bool, true, false, ◌&&◌, not, IsTrue, nat_le, List, [], ◌∷◌, Some, codes, Ok}
 use Rattle.std.specs.List.{list_all}
 use Rattle.std.proofs.Common.{refl, sym, ap, ◌∙◌, subst, arith, true≢false}
 use Rattle.std.proofs.lemmas.Bool.{le-leb, leb-true, ltb-true, and_right}
 use Rattle.ml_term.specs.Tree.{Tree, Trees, atom, compound, compound_1, compound_2, no_trees, tree, arity, nodes}
 use Rattle.ml_term.specs.Names.{is_name}
 use Rattle.ml_term.specs.Valid.{is_valid, are_valid, is_in_range}
-use Rattle.ml_reader.specs.Lexemes.{Written, written, Lexeme, name, unknown, number, paren, close, bracket, unbracket, brace, unbrace, bar, comma, end, cell, cells, onto, brackets_name, braces_name}
-use Rattle.ml_reader.specs.Operators.{Operator, prefix_of, infix_at, closes, fits}
+use Rattle.ml_reader.specs.Lexemes.{Written, written, Lexeme, name, unknown, number, paren, bracket, brace, cells, onto, brackets_name, braces_name}
+use Rattle.ml_reader.specs.Operators.{Operator, prefix_of, infix_at, fits}
 use Rattle.ml_reader.specs.Grammar.{Word, plain, brackets, curlies, AtomBefore, joins, Derives, a_variable, a_number, a_negative, in_braces, an_atom, a_compound, in_parens, a_list, a_prefix, an_infix, Arguments, last_argument, argument, Elements, last_element, before_bar, element, IsText, no_clause, a_clause}
-use Rattle.ml_reader.specs.Parser.{before, between, parens, braces, arguments, elements, rest, Stack, root, ◌▹◌, State, want, fresh, word, have, commas, limit, had_as, step}
+use Rattle.ml_reader.specs.Parser.{before, between, parens, braces, arguments, elements, rest, Stack, root, ◌▹◌, want, fresh, word, have, commas, limit, had_as, step}
 use Rattle.ml_reader.specs.Levels.{opened_by, deepest, deepest_arguments, deepest_elements, deepest_in}
 use Rattle.ml_reader.specs.Limits.{depth, is_lone}
 use Rattle.ml_reader.specs.declared.limits.TheConstants.{MOST_LEVELS, MOST_NODES, INTEGER_OFFSET}
 use Rattle.ml_reader.proofs.OperatorLaws.{infix_lawful, prefix_lawful, left_within, right_within}
-use Rattle.ml_reader.proofs.Paths.{opened, length_opened}
-use Rattle.ml_reader.proofs.Following.{Stops, by_infix, by_end, Follows, follows_lower, Begins, begins, elements_begin, arguments_begin, place, fit, fit_again, leb_not}
+use Rattle.ml_reader.proofs.Paths.{length_opened}
+use Rattle.ml_reader.proofs.Following.{by_infix, by_end, Follows, follows_lower, Begins, begins, elements_begin, place, fit, fit_again, leb_not}
 use Rattle.ml_reader.proofs.Alikes.{atom_alike, prefix_alike, bracket_alike, brace_alike, before_alike, between_alike}
-use Rattle.ml_reader.proofs.Keeping.{AreFew, is_moderate, Fine, Kept, done, kept, kept_alike, alike_sym}
+use Rattle.ml_reader.proofs.Keeping.{is_moderate, Fine, Kept, done, kept, kept_alike, alike_sym}
 
 -- the parts of a valid compound
 first_of : (a b : Bool) → IsTrue (a && b) → IsTrue a

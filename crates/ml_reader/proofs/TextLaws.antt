@@ -1,6 +1,6 @@
 -- A text is one list of clauses, or has one first fault.
-use Rattle.std.specs.Prelude.{◌≡◌, ◌≢◌, ℕ, zero, suc, ◌+◌, ◌≤◌, ◌<◌, ◌^◌, ◌⊎◌, Bool, true, false, List, [], ◌∷◌, ◌++◌, length, get_or, Ok}
-use Rattle.std.proofs.Common.{refl, sym, ap, ◌∙◌, subst, arith, append_assoc, append-nil, true≢false, inl, inr}
+use Rattle.std.specs.Prelude.{◌≡◌, ℕ, zero, suc, ◌+◌, ◌≤◌, ◌<◌, ◌^◌, ◌⊎◌, true, List, [], ◌∷◌, ◌++◌, length, get_or, Ok}
+use Rattle.std.proofs.Common.{refl, sym, ap, ◌∙◌, subst, arith, true≢false, inl, inr}
 use Rattle.ml_token.specs.Tokens.{first_token}
 use Rattle.ml_token.specs.declared.tokens.Token.{Token}
 use Rattle.ml_token.specs.declared.tokens.TokenFaultKind.{TokenFaultKind}
@@ -20,11 +20,11 @@ use Rattle.ml_reader.specs.declared.fault.ReadKind.TheVariants as kind
 use Rattle.ml_reader.proofs.Sound.{sound}
 use Rattle.ml_reader.proofs.Complete.{reads, back}
 use Rattle.ml_reader.proofs.ExactLaws.{only_clauses}
-use Rattle.ml_reader.proofs.Within.{AllGood, text_within}
+use Rattle.ml_reader.proofs.Within.{text_within}
 use Rattle.ml_reader.proofs.Staying.{text_stays}
 use Rattle.ml_reader.proofs.Beginnings.{Stand, same_token, not_found, next_is, not_eof, Along, same, longer, shorter, along, goes_up, behind_to}
 use Rattle.ml_reader.proofs.Readings.{Reading, reading_starts}
-use Rattle.ml_reader.proofs.Quiet.{Where, pending, here, later, where_met, met_after}
+use Rattle.ml_reader.proofs.Quiet.{Where, pending, here, later, where_met}
 use Rattle.ml_reader.proofs.Turning.{Says, turn_says}
 use Rattle.ml_reader.proofs.Values.{good_text}
 

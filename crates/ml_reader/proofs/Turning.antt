@@ -1,27 +1,26 @@
 -- What a turn comes to: one token more within the limits, all of the text, or its first fault.
 use Rattle.std.specs.Prelude.{◌≡◌, ◌≢◌, ℕ, ◌+◌, ◌≤◌, ◌<◌, Bool, true, false, ◌&&◌, ◌||◌, not, if◌then◌else◌, IsTrue, nat_le, nat_lt, List, [], ◌∷◌, ◌++◌, length, drop, Option, Some, None, Result, Ok, Err}
 use Rattle.std.proofs.Common.{refl, sym, ap, ◌∙◌, subst, arith, append_assoc, true≢false}
-use Rattle.std.proofs.lemmas.Bool.{and_from, le-leb, leb-true, leb-false, lt-ltb, ltb-true, ltb-false}
-use Rattle.ml_term.specs.Tree.{Trees, no_trees, tree, arity, nodes}
+use Rattle.std.proofs.lemmas.Bool.{and_from, le-leb, leb-true, leb-false, ltb-true, ltb-false}
+use Rattle.ml_term.specs.Tree.{no_trees, tree, arity, nodes}
 use Rattle.ml_token.specs.Tokens.{first_token}
 use Rattle.ml_token.specs.Values.{number_of}
 use Rattle.ml_token.specs.declared.tokens.Token.{Token}
 use Rattle.ml_token.specs.declared.tokens.TokenFault.{TokenFault}
 use Rattle.ml_token.specs.declared.tokens.TokenKind.{TokenKind}
 use Rattle.ml_token.specs.declared.tokens.TokenKind.TheVariants.{Name, QuotedName, Variable, Number, Punct, End, Eof}
-use Rattle.ml_reader.specs.Lexemes.{Written, Mark, Lexeme, unknown, number, end, turned_onto}
-use Rattle.ml_reader.specs.Operators.{Operator, prefix_of, is_operator, closes}
-use Rattle.ml_reader.specs.Tokens.{Context, lexeme, lexeme_of, behind, is_tight, nothing_before, GoesOn}
-use Rattle.ml_reader.specs.Grammar.{IsText, Viable, joins}
-use Rattle.ml_reader.specs.Exact.{IsKind}
+use Rattle.ml_reader.specs.Lexemes.{Written, Lexeme, unknown, number, end, turned_onto}
+use Rattle.ml_reader.specs.Operators.{Operator, prefix_of, is_operator}
+use Rattle.ml_reader.specs.Tokens.{Context, lexeme, lexeme_of, behind, is_tight}
+use Rattle.ml_reader.specs.Grammar.{IsText, Viable}
 use Rattle.ml_reader.specs.Parser.{arguments, root, Stack, ◌▹◌, State, want, fresh, word, have, Fault, Next, step, run, read}
 use Rattle.ml_reader.specs.Parser as P
 use Rattle.ml_reader.specs.Frames.{has_many, few}
 use Rattle.ml_reader.specs.declared.frames.Refusal.TheVariants.{ManyArguments}
 use Rattle.ml_reader.specs.Levels.{Level, enclosed, in_argument, in_list, Wants}
-use Rattle.ml_reader.specs.Limits.{depth, levels, opens_past, name_too_deep, makes_prefix, joined, is_lone, Outcome, goes, late, stops, fault_at, sized, too_many, stopped, checked, limited}
-use Rattle.ml_reader.specs.Turns.{Turned, on, whole, wrong, is_eof, is_between, late_kind, stays_open, taken, here_at, ended, met, found, turned}
-use Rattle.ml_reader.specs.Faults.{kind_of, fault, rank, IsNext, MayBeNext, next, at_end, at_fault, AreOpen, EndsInMinus, FaultBehind, bad_token, too_deep, many_arguments, long_clause, large_number, clash, unexpected, cut_off, many_nodes, HasFault, HasFirstFault}
+use Rattle.ml_reader.specs.Limits.{depth, levels, opens_past, name_too_deep, makes_prefix, joined, is_lone, Outcome, goes, late, fault_at, sized, too_many, stopped, checked, limited}
+use Rattle.ml_reader.specs.Turns.{Turned, on, whole, wrong, is_eof, is_between, late_kind, stays_open, taken, here_at, ended, found, turned}
+use Rattle.ml_reader.specs.Faults.{kind_of, fault, rank, IsNext, MayBeNext, next, at_end, at_fault, AreOpen, EndsInMinus, FaultBehind, too_deep, many_arguments, long_clause, large_number, clash, unexpected, many_nodes, HasFirstFault}
 use Rattle.ml_reader.specs.declared.fault.ReadFault.{ReadFault}
 use Rattle.ml_reader.specs.declared.fault.ReadKind.{ReadKind}
 use Rattle.ml_reader.specs.declared.fault.ReadKind.TheVariants.{TooDeep, ArityTooLarge, ClauseTooLong, NumberTooLarge, PriorityClash, Unexpected, TooManyNodes}
@@ -32,12 +31,12 @@ use Rattle.ml_reader.proofs.Sound.{sound}
 use Rattle.ml_reader.proofs.ExactLaws.{stuck, right_kind, no_text_yet}
 use Rattle.ml_reader.proofs.Paths.{opened, length_opened, path_before}
 use Rattle.ml_reader.proofs.InFront.{path_of_wants, no_wants, wants_before, minus_read, ends_in_minus}
-use Rattle.ml_reader.proofs.Keeping.{AreFew, is_moderate, Fine}
+use Rattle.ml_reader.proofs.Keeping.{AreFew, is_moderate}
 use Rattle.ml_reader.proofs.Ends.{IsEnd, EndsClause, step_ends}
 use Rattle.ml_reader.proofs.Lows.{height, IsOther, IsLow, step_low}
-use Rattle.ml_reader.proofs.Beginnings.{Stand, goes_further, same_token, behind_last, next_is, not_eof, not_found, sign_is, first_sign_is}
+use Rattle.ml_reader.proofs.Beginnings.{Stand, goes_further, same_token, behind_last, next_is, not_found, first_sign_is}
 use Rattle.ml_reader.proofs.Readings.{Reading, reading_few, reading_goes_on, one_more}
-use Rattle.ml_reader.proofs.Quiet.{IsDeepName, deep_name, deep_path, in_argument_is, InArgument, lone_is_joined, number_lexeme}
+use Rattle.ml_reader.proofs.Quiet.{IsDeepName, deep_name, deep_path, in_argument_is, lone_is_joined, number_lexeme}
 use Rattle.ml_reader.proofs.FirstFaults.{Ranks, deep_first, token_fault_first, end_first, at_token_first}
 
 -- what holds of each choice holds of the chosen one

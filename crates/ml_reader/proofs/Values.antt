@@ -1,17 +1,16 @@
 -- The values of a text's tokens are in range.
-use Rattle.std.specs.Prelude.{◌≡◌, ◌≢◌, ℕ, ◌+◌, ◌-◌, ◌≤◌, ◌<◌, ◌^◌, Bool, true, false, ◌&&◌, if◌then◌else◌, IsTrue, nat_lt, List, [], ◌∷◌, ◌++◌, length, drop, Option, Some, None, unwrap_or, Ok}
+use Rattle.std.specs.Prelude.{◌≡◌, ℕ, ◌+◌, ◌-◌, ◌≤◌, ◌<◌, ◌^◌, Bool, true, false, ◌&&◌, if◌then◌else◌, IsTrue, nat_lt, List, [], ◌∷◌, ◌++◌, length, drop, Option, Some, None, unwrap_or}
 use Rattle.std.specs.Str.{bytes_eq}
 use Rattle.std.specs.List.{list_all}
-use Rattle.std.proofs.Common.{refl, sym, ap, subst, arith, true≢false}
+use Rattle.std.proofs.Common.{refl, sym, subst, arith, true≢false}
 use Rattle.std.proofs.lemmas.Bool.{lt-ltb, ltb-true}
 use Rattle.ml_term.specs.Names.{is_name}
-use Rattle.ml_token.specs.Values.{name_of, number_of, spelled, HasValue, StandsIn}
+use Rattle.ml_token.specs.Values.{name_of, spelled, HasValue}
 use Rattle.ml_token.specs.declared.tokens.Token.{Token}
 use Rattle.ml_token.specs.declared.tokens.TokenKind.{TokenKind}
 use Rattle.ml_token.specs.declared.tokens.TokenKind.TheVariants.{Name, QuotedName, Variable, Number, Punct, End, Eof}
 use Rattle.ml_reader.specs.Lexemes.{Lexeme}
-use Rattle.ml_reader.specs.Tokens.{Context, lexeme, lexeme_of, behind, behind_kind, behind_variable, behind_named, is_tight, one_more, variable_number, find_name, is_anonymous, nothing_before, Ends, the_end, one_more_token}
-use Rattle.ml_reader.specs.declared.limits.TheConstants.{INTEGER_OFFSET}
+use Rattle.ml_reader.specs.Tokens.{Context, lexeme_of, behind_kind, behind_variable, behind_named, is_tight, one_more, variable_number, find_name, is_anonymous, nothing_before, Ends, the_end, one_more_token}
 use Rattle.ml_reader.proofs.Beginnings.{Stand, behind_to, first_sign_is}
 use Rattle.ml_reader.proofs.Keeping.{IsGood, AreGood}
 

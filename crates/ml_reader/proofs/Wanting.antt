@@ -1,19 +1,15 @@
 -- Where a term is wanted, the parser's frames are the levels that are open.
-use Rattle.std.specs.Prelude.{◌≡◌, ℕ, ◌+◌, ◌≤◌, Bool, true, false, ◌&&◌, not, IsTrue, List, [], ◌∷◌, ◌++◌, Option, Some, None, codes, Ok}
-use Rattle.std.proofs.Common.{refl, sym, ap, ◌∙◌, subst, arith, true≢false}
+use Rattle.std.specs.Prelude.{◌≡◌, ℕ, ◌+◌, true, false, IsTrue, List, [], ◌∷◌, Some, Ok}
+use Rattle.std.proofs.Common.{refl, sym, ap, ◌∙◌, subst, arith}
 use Rattle.ml_term.specs.Tree.{Trees, arity, no_trees, tree}
-use Rattle.ml_reader.specs.Lexemes.{Written, written, Lexeme, name, number, paren, bracket, brace, bar, comma, end}
-use Rattle.ml_reader.specs.Operators.{Operator, prefix_of, is_operator, infix_at, closes, fits}
-use Rattle.ml_reader.specs.Grammar.{Word, joins, Derives}
-use Rattle.ml_reader.specs.Parser.{before, between, parens, braces, arguments, elements, rest, Stack, root, ◌▹◌, State, want, fresh, word, have, commas, limit, had_as, step, read}
+use Rattle.ml_reader.specs.Lexemes.{Written, written, Lexeme, paren, bracket, brace, bar, comma, end}
+use Rattle.ml_reader.specs.Operators.{infix_at, fits}
+use Rattle.ml_reader.specs.Parser.{before, between, parens, braces, arguments, elements, rest, Stack, root, ◌▹◌, State, want, fresh, word, have, commas, limit, had_as, step}
 use Rattle.ml_reader.specs.Levels.{Level, enclosed, in_argument, in_list, in_tail, right_of, commas_inside, greatest_inside, Wants, at_first, behind_clause, behind_paren, behind_brace, behind_bracket, behind_functor, behind_argument, behind_element, behind_bar, behind_prefix, behind_infix}
-use Rattle.ml_reader.specs.Limits.{makes_prefix}
 use Rattle.ml_reader.proofs.OperatorLaws.{infix_lawful, left_within}
-use Rattle.ml_reader.proofs.Paths.{opened, commas_opened, greatest_opened, fitted, prefix_path, path_before, Alike}
+use Rattle.ml_reader.proofs.Paths.{opened, commas_opened, greatest_opened, Alike}
 use Rattle.ml_reader.proofs.Following.{by_infix, by_end, IsMore, Begins, begins, word_begins, place, fit, fit_again}
-use Rattle.ml_reader.proofs.Alikes.{bracket_alike, brace_alike, prefix_alike}
 use Rattle.ml_reader.proofs.Complete as C
-use Rattle.ml_reader.proofs.Sound.{Holds, placed_in, read_holds}
 
 pub same_some : {ls ms : List Level} → Some ls ≡ Some ms → ls ≡ ms
 same_some e = cc

@@ -1,25 +1,23 @@
 -- What holds of each clause of a text: its variables are numbered, its names are theirs, and its tokens' values are in range.
-use Rattle.std.specs.Prelude.{◌≡◌, ◌≢◌, ℕ, ◌+◌, ◌-◌, ◌≤◌, ◌<◌, ◌^◌, Bool, true, false, ◌&&◌, not, if◌then◌else◌, IsTrue, nat_le, nat_lt, List, [], ◌∷◌, ◌++◌, length, drop, Option, Some, None, unwrap_or, Ok}
+use Rattle.std.specs.Prelude.{◌≡◌, ◌≢◌, ℕ, ◌-◌, ◌≤◌, Bool, true, false, ◌&&◌, not, IsTrue, nat_le, List, [], ◌∷◌, ◌++◌, length, drop, Some}
 use Rattle.std.specs.List.{list_all, AllByRecursion}
 use Rattle.std.proofs.Common.{refl, sym, ap, ◌∙◌, subst, arith, append_assoc, append-nil, true≢false}
-use Rattle.std.proofs.lemmas.Bool.{leb-true, lt-ltb, ltb-true}
-use Rattle.ml_term.specs.Tree.{Tree, Trees, variables, variables_of, is_numbered, nodes, has, firsts, counts_from}
+use Rattle.std.proofs.lemmas.Bool.{leb-true}
+use Rattle.ml_term.specs.Tree.{Tree, Trees, variables, variables_of, is_numbered, nodes, has}
 use Rattle.ml_term.specs.Names.{is_name}
 use Rattle.ml_term.specs.Valid.{is_valid}
-use Rattle.ml_token.specs.Tokens.{first_token}
 use Rattle.ml_token.specs.Values.{name_of, spelled, HasValue, StandsIn}
 use Rattle.ml_token.specs.declared.tokens.Token.{Token}
 use Rattle.ml_token.specs.declared.tokens.TokenKind.{TokenKind}
 use Rattle.ml_token.specs.declared.tokens.TokenKind.TheVariants.{Name, QuotedName, Variable, Number, Punct, End, Eof}
-use Rattle.ml_reader.specs.Lexemes.{Written, written, Mark, Lexeme, name, unknown, number, paren, close, bracket, unbracket, brace, unbrace, bar, comma, end}
-use Rattle.ml_reader.specs.Tokens.{Context, lexeme, lexeme_of, behind, behind_kind, is_tight, mark_at, one_more, variable_number, find_name, is_anonymous, nothing_before, Ends, the_end, one_more_token}
+use Rattle.ml_reader.specs.Lexemes.{Written, Mark, Lexeme, name, unknown, end}
+use Rattle.ml_reader.specs.Tokens.{Context, lexeme, lexeme_of, behind, behind_kind, is_tight, mark_at, is_anonymous, nothing_before, Ends, one_more_token}
 use Rattle.ml_reader.specs.Grammar.{Word, plain, brackets, curlies, Derives, a_variable, a_number, a_negative, in_braces, an_atom, a_compound, in_parens, a_list, a_prefix, an_infix, Arguments, last_argument, argument, Elements, last_element, before_bar, element, IsText, no_clause, a_clause}
 use Rattle.ml_reader.specs.Operators.{Operator, infix_at}
 use Rattle.ml_reader.specs.Texts.{IsRead, IsWellRead, rise_from, are_different}
 use Rattle.ml_reader.specs.Faults.{IsNext}
-use Rattle.ml_reader.specs.declared.limits.TheConstants.{MOST_NODES, INTEGER_OFFSET}
+use Rattle.ml_reader.specs.declared.limits.TheConstants.{MOST_NODES}
 use Rattle.ml_reader.proofs.Beginnings.{Stand, behind_to, first_sign_is}
-use Rattle.ml_reader.proofs.Keeping.{IsGood, AreGood}
 use Rattle.ml_reader.proofs.Numbering.{Numbered, numbered_still, numbered_variable}
 
 -- a token that is no variable and no end

@@ -1,23 +1,23 @@
 -- Where a run keeps within the limits, the clauses that are read do, and their terms are terms of the language.
-use Rattle.std.specs.Prelude.{pos, negsuc, neg_ℤ, ◌≡◌, ℕ, suc, zero, ◌+◌, ◌≤◌, ◌<◌, ◌^◌, max, Bool, true, false, ◌&&◌, not, if◌then◌else◌, IsTrue, nat_le, nat_lt, List, [], ◌∷◌, length, Some, codes, Ok}
+use Rattle.std.specs.Prelude.{pos, neg_ℤ, ◌≡◌, ℕ, suc, zero, ◌+◌, ◌≤◌, ◌<◌, ◌^◌, Bool, true, false, ◌&&◌, if◌then◌else◌, IsTrue, nat_le, List, [], ◌∷◌, Some, codes, Ok}
 use Rattle.std.specs.List.{list_all}
 use Rattle.std.proofs.Common.{refl, sym, ap, ◌∙◌, subst, arith, true≢false}
-use Rattle.std.proofs.lemmas.Bool.{le-leb, leb-true, leb-false, lt-ltb, ltb-true}
+use Rattle.std.proofs.lemmas.Bool.{le-leb, leb-true, leb-false, lt-ltb}
 use Rattle.ml_term.specs.Tree.{Tree, Trees, atom, compound, compound_1, compound_2, no_trees, tree, arity, nodes}
 use Rattle.ml_term.specs.Names.{is_name}
 use Rattle.ml_term.specs.Valid.{is_valid, are_valid, is_in_range}
-use Rattle.ml_reader.specs.Lexemes.{Written, written, Lexeme, name, unknown, number, paren, close, bracket, unbracket, brace, unbrace, bar, comma, end, cell, brackets_name, braces_name}
+use Rattle.ml_reader.specs.Lexemes.{Written, written, Lexeme, name, unknown, number, paren, bracket, brace, bar, comma, brackets_name, braces_name}
 use Rattle.ml_reader.specs.Operators.{Operator, Row, operator, named, infixes, infix_of, infix_at, is_among, fits}
 use Rattle.ml_reader.specs.Grammar.{Word, plain, brackets, curlies, Derives, a_variable, a_number, a_negative, in_braces, an_atom, a_compound, in_parens, a_list, a_prefix, an_infix, Arguments, last_argument, argument, Elements, last_element, before_bar, element, IsText, no_clause, a_clause}
 use Rattle.ml_reader.specs.Parser.{before, between, parens, braces, arguments, elements, rest, Stack, root, ◌▹◌, State, want, fresh, word, have, commas, limit, had_as, step}
 use Rattle.ml_reader.specs.Levels.{opened_by, deepest, deepest_arguments, deepest_elements, deepest_in}
-use Rattle.ml_reader.specs.Limits.{depth, is_lone}
+use Rattle.ml_reader.specs.Limits.{depth}
 use Rattle.ml_reader.specs.declared.limits.TheConstants.{MOST_LEVELS, MOST_NODES, INTEGER_OFFSET}
 use Rattle.ml_reader.proofs.OperatorLaws.{infix_lawful, prefix_lawful, left_within, right_within}
-use Rattle.ml_reader.proofs.Paths.{opened, length_opened, Alike}
-use Rattle.ml_reader.proofs.Following.{by_infix, by_end, Follows, follows_lower, IsMore, more, Begins, begins, elements_begin, arguments_begin, place, fit, fit_again}
+use Rattle.ml_reader.proofs.Paths.{length_opened, Alike}
+use Rattle.ml_reader.proofs.Following.{by_infix, by_end, Follows, follows_lower, IsMore, Begins, begins, elements_begin, arguments_begin, place, fit, fit_again}
 use Rattle.ml_reader.proofs.Complete as C
-use Rattle.ml_reader.proofs.Keeping.{AreFew, is_moderate, Fine, Kept, done, kept, kept_tail, kept_head, kept_alike, IsGood, AreGood}
+use Rattle.ml_reader.proofs.Keeping.{Kept, kept, kept_tail, kept_head, kept_alike, IsGood, AreGood}
 
 -- a run within the limits over tokens whose values are in range
 abbrev Keeps : State → List Lexeme → Type 0

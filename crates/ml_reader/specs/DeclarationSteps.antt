@@ -1,7 +1,7 @@
 -- What a term declares, taken apart.
 use Rattle.std.specs.Prelude.{ℕ, nat_le, ℤ, pos, negsuc, Bool, ◌&&◌, not, List, [], ◌∷◌, Option, Some, None, option_map, cond, codes}
 use Rattle.std.specs.Str.{bytes_eq}
-use Rattle.ml_term.specs.Tree.{Tree, variable, integer, atom, compound, no_trees, tree}
+use Rattle.ml_term.specs.Tree.{Tree, integer, atom, compound, no_trees, tree}
 use Rattle.ml_term.specs.Keys.{are_keys, default_keys}
 use Rattle.ml_term.specs.declared.declaration.Decl.{Decl}
 use Rattle.ml_term.specs.declared.declaration.Pred.{Pred}

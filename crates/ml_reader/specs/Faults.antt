@@ -1,6 +1,6 @@
 -- Where a text goes wrong, and what goes wrong first. Nothing here knows how a text is read: what stands before a fault is
 -- said by the grammar, as is where a level or an argument begins.
-use Rattle.std.specs.Prelude.{◌≡◌, ◌≢◌, ℕ, ◌+◌, ◌≤◌, ◌<◌, ◌⊎◌, Bool, true, false, IsTrue, List, [], ◌∷◌, ◌++◌, length, codes, Ok, Err}
+use Rattle.std.specs.Prelude.{◌≡◌, ◌≢◌, ℕ, ◌≤◌, ◌<◌, ◌⊎◌, true, false, List, [], ◌∷◌, ◌++◌, length, codes, Ok, Err}
 use Rattle.ml_term.specs.Tree.{nodes}
 use Rattle.ml_token.specs.Tokens.{first_token}
 use Rattle.ml_token.specs.Values.{number_of}

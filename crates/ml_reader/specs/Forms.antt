@@ -2,7 +2,7 @@
 use Rattle.std.specs.Prelude.{◌≡◌, List, ◌∷◌, ◌++◌, Option, Some, None, cond, codes}
 use Rattle.std.specs.List.{filter_map}
 use Rattle.std.specs.Str.{bytes_eq}
-use Rattle.ml_term.specs.Tree.{Tree, variable, integer, atom, compound, no_trees, tree, compound_1, compound_2}
+use Rattle.ml_term.specs.Tree.{Tree, compound, no_trees, tree, compound_1, compound_2}
 use Rattle.ml_reader.specs.Lexemes.{Written}
 
 -- `:- T`, `?- T`, `HEAD :- BODY`, and every other term `HEAD`

@@ -2,7 +2,7 @@
 -- or infix operator until its right operand ends.
 use Rattle.std.specs.Prelude.{◌≡◌, ℕ, ◌+◌, max, Bool, true, false, not, IsTrue, List, [], ◌∷◌, Some}
 use Rattle.ml_term.specs.Tree.{Tree, Trees}
-use Rattle.ml_reader.specs.Lexemes.{Mark, Written, Lexeme, paren, close, bracket, brace, bar, comma, end}
+use Rattle.ml_reader.specs.Lexemes.{Mark, Written, Lexeme, paren, bracket, brace, bar, comma, end}
 use Rattle.ml_reader.specs.Operators.{Operator, prefix_of, infix_at, closes, fits}
 use Rattle.ml_reader.specs.Grammar.{Word, plain, brackets, curlies, joins, Derives, a_variable, a_number, a_negative, in_braces, an_atom, a_compound, in_parens, a_list, a_prefix, an_infix, Arguments, last_argument, argument, Elements, last_element, before_bar, element, IsText, no_clause, a_clause}
 

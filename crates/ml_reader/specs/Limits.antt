@@ -1,7 +1,7 @@
 -- The limits of a text, and the parser with them.
-use Rattle.std.specs.Prelude.{ℕ, ◌+◌, Bool, true, false, ◌&&◌, not, nat_le, nat_lt, if◌then◌else◌, List, [], ◌∷◌, ◌++◌, Option, Some, None, Result, Ok, Err}
+use Rattle.std.specs.Prelude.{ℕ, ◌+◌, Bool, true, false, ◌&&◌, not, nat_le, nat_lt, if◌then◌else◌, [], ◌∷◌, Option, Some, None, Result, Ok, Err}
 use Rattle.ml_term.specs.Tree.{nodes}
-use Rattle.ml_reader.specs.Lexemes.{Written, Lexeme, number}
+use Rattle.ml_reader.specs.Lexemes.{Lexeme, number}
 use Rattle.ml_reader.specs.Operators.{Operator, prefix_of, is_operator, closes}
 use Rattle.ml_reader.specs.Grammar.{joins}
 use Rattle.ml_reader.specs.Parser.{Stack, root, ◌▹◌, State, want, fresh, word, have, limit, step}

@@ -1,5 +1,5 @@
 -- What a token comes to within the limits.
-use Rattle.std.specs.Prelude.{List, [], ◌∷◌}
+use Rattle.std.specs.Prelude.{[], ◌∷◌}
 use Rattle.ml_reader.specs.Parser as P
 use Rattle.ml_reader.specs.Seen.{read_seen}
 use Rattle.ml_reader.specs.Frames.{state_seen}

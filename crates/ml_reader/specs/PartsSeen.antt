@@ -1,8 +1,5 @@
 -- What the code's parts and items of rules are seen as: the same, with trees in place of terms.
-use Rattle.std.specs.Prelude.{ℕ, List, map, Option, option_map}
-use Rattle.ml_term.specs.Tree.{Tree}
 use Rattle.ml_term.specs.Seen.{seen}
-use Rattle.ml_term.specs.declared.term.Term.{Term}
 use Rattle.ml_search.specs.ClauseSeen.{clause_seen}
 use Rattle.ml_reader.specs.Rules.{Part, in_program, in_list, wrong}
 use Rattle.ml_reader.specs.declared.parts.Part as P

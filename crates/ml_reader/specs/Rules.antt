@@ -12,7 +12,7 @@ use Rattle.ml_search.specs.WellFormed.{is_clause_head, are_declared_once}
 use Rattle.ml_reader.specs.Lexemes.{Written}
 use Rattle.ml_reader.specs.Declarations.{Declares}
 use Rattle.ml_reader.specs.Faults.{fault, HasFirstFault}
-use Rattle.ml_reader.specs.Forms.{Form, directive, query, rule, fact, form, directive_of, directives, ComesNext}
+use Rattle.ml_reader.specs.Forms.{Form, directive, query, rule, fact, form, directives, ComesNext}
 use Rattle.ml_reader.specs.Texts.{IsRead}
 use Rattle.ml_reader.specs.declared.fault.ReadFault.{ReadFault}
 use Rattle.ml_reader.specs.declared.fault.ReadKind.{ReadKind}

@@ -2,7 +2,7 @@
 -- without a step.
 use Rattle.std.specs.Prelude.{pos, ℕ, Bool, true, false, ◌&&◌, nat_le, IsTrue, List, [], ◌∷◌, ◌++◌, Option, Some, None, Result, Ok, Err, codes}
 use Rattle.std.specs.Str.{bytes_eq}
-use Rattle.ml_term.specs.Tree.{Tree, variable, integer, atom, compound, no_trees, tree}
+use Rattle.ml_term.specs.Tree.{Tree, integer, atom, compound, no_trees, tree}
 use Rattle.ml_search.specs.Bodies.{is_callable}
 use Rattle.ml_search.specs.Program.{Goal, Last, commit, abort, unless, Script}
 use Rattle.ml_search.specs.WellFormed.{is_goal}

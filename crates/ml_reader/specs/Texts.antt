@@ -1,6 +1,6 @@
 -- Which clauses a text is, within all limits. Nothing here knows how a text is read.
-use Rattle.std.specs.Prelude.{ℕ, ◌+◌, ◌≤◌, ◌<◌, Bool, true, ◌&&◌, not, IsTrue, nat_le, nat_lt, List, [], ◌∷◌, AllPairs, is_none}
-use Rattle.std.specs.List.{list_all, AllByRecursion}
+use Rattle.std.specs.Prelude.{ℕ, ◌+◌, ◌≤◌, Bool, true, ◌&&◌, not, IsTrue, nat_le, nat_lt, List, [], ◌∷◌, is_none}
+use Rattle.std.specs.List.{list_all}
 use Rattle.ml_term.specs.Tree.{nodes, variables, has, is_numbered}
 use Rattle.ml_term.specs.Valid.{is_valid}
 use Rattle.ml_term.specs.Names.{is_name}

@@ -1,5 +1,5 @@
 -- The tokens of a text with their values.
-use Rattle.std.specs.Prelude.{◌≡◌, ◌≢◌, ℕ, ◌+◌, Bool, true, false, ◌==◌, if◌then◌else◌, List, [], ◌∷◌, ◌++◌, drop, Option, Some, None, unwrap_or, Result, Ok, Err, codes}
+use Rattle.std.specs.Prelude.{◌≡◌, ◌≢◌, ℕ, ◌+◌, Bool, true, false, ◌==◌, if◌then◌else◌, List, [], ◌∷◌, ◌++◌, drop, Option, Some, None, unwrap_or, Ok, codes}
 use Rattle.std.specs.Str.{bytes_eq}
 use Rattle.ml_token.specs.Tokens.{first_token}
 use Rattle.ml_token.specs.Values.{name_of, number_of}

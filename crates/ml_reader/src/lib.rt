@@ -24,6 +24,7 @@ mod parser;
 mod parts;
 mod rules;
 mod rules_file;
+pub mod rules_laws;
 mod rules_of;
 #[cfg(test)]
 mod rules_tests;

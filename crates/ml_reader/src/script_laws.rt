@@ -1,5 +1,5 @@
 //! Laws of scripts. Each function does nothing; its contract is the law.
-ghost use Rattle.std.specs.Prelude.{◌≡◌, ◌⊎◌, ℕ, List};
+ghost use Rattle.std.specs.Prelude.{◌≡◌, ◌<◌, ◌^◌, ◌⊎◌, ℕ, List, length};
 ghost use Rattle.ml_search.specs.Program.{Script};
 ghost use Rattle.ml_reader.specs.Lexemes.{Written};
 ghost use Rattle.ml_reader.specs.Scripts.{BeginsScript, IsFirstWrong, IsScriptOf};
@@ -23,9 +23,11 @@ pub fn a_script_begins_with_scripts()
     ensures { (cs : List Written) → BeginsScript cs → (s : Script) × IsScriptOf cs s }
 {}
 
-/// A text is at most one script, and has at most one first fault as a script, but not both.
+/// A text is at most one script, and has at most one first fault as a script, but not both; a text of fewer than 4294967296 bytes is or has one of
+/// them.
 pub fn a_text_is_one_script_or_has_one_fault()
     ensures script { (bytes : List ℕ) (s t : Script) → IsScript bytes s → IsScript bytes t → s ≡ t }
     ensures fault { (bytes : List ℕ) (f g : ReadFault) → HasScriptFault bytes f → HasScriptFault bytes g → f ≡ g }
     ensures not_both { (bytes : List ℕ) (s : Script) (f : ReadFault) → IsScript bytes s → HasScriptFault bytes f → ⊥ }
+    ensures either { (bytes : List ℕ) → length bytes < 2 ^ 32 → ((s : Script) × IsScript bytes s) ⊎ ((f : ReadFault) × HasScriptFault bytes f) }
 {}

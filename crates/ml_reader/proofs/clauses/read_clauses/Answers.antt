@@ -1,16 +1,14 @@
-use Rattle.std.proofs.Common.{◌≡◌, ◌<◌, ◌^◌, [], ◌∷◌, length, map, Err, sym, ap, ◌∙◌, subst, arith, inl, inr}
+use Rattle.std.proofs.Common.{◌≡◌, [], ◌∷◌, map, Err, sym, ap, ◌∙◌, subst, arith, inl}
 use Rattle.ml_reader.specs.ContextSeen.{context_seen}
 use Rattle.ml_reader.specs.Parser.{want, root}
-use Rattle.ml_reader.specs.Frames.{stack, state_seen}
+use Rattle.ml_reader.specs.Frames.{state_seen}
 use Rattle.ml_reader.specs.Seen.{read_seen}
 use Rattle.ml_reader.specs.Texts.{IsRead}
 use Rattle.ml_reader.specs.Faults.{HasFirstFault}
-use Rattle.ml_reader.specs.Turns.{Turned, on, whole, wrong, turned}
 use Rattle.ml_reader.specs.TurnsSeen.{turn_seen}
-use Rattle.ml_reader.specs.declared.fault.ReadFault.{ReadFault}
 use Rattle.ml_reader.specs.declared.fault.ReadStop.TheVariants as read_stop
 use Rattle.ml_reader.proofs.Beginnings.{stand_by}
-use Rattle.ml_reader.proofs.Loops.{Keeps, Goes, keeps_begin, keeps_next, keeps_on, keeps_wrong, keeps_whole}
+use Rattle.ml_reader.proofs.Loops.{Goes, keeps_begin, keeps_next, keeps_on, keeps_wrong, keeps_whole}
 use Rattle.ml_reader.proofs.TextLaws.{read_once, read_without_fault, one_first_fault}
 use Rattle.ml_reader.proofs.WellRead.{well_read}
 use Rattle.ml_reader.proofs.clauses.read_clauses.Goals as goal

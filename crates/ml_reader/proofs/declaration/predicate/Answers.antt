@@ -1,4 +1,4 @@
-use Rattle.std.proofs.Common.{◌≡◌, ◌≢◌, length, ap, sym, ◌∙◌}
+use Rattle.std.proofs.Common.{◌≢◌, length, ap, sym, ◌∙◌}
 use Rattle.std.proofs.lemmas.List.{length-map}
 use Rattle.ml_term.specs.Seen.{seen, all_seen}
 use Rattle.ml_term.proofs.Views.{seen_compound}

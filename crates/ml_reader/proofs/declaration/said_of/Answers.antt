@@ -1,4 +1,4 @@
-use Rattle.std.proofs.Common.{◌≡◌, sym, ◌∙◌}
+use Rattle.std.proofs.Common.{sym, ◌∙◌}
 use Rattle.std.proofs.lemmas.List.{length-map}
 use Rattle.ml_term.specs.Seen.{seen, all_seen}
 use Rattle.ml_reader.proofs.Shapes.{nothing_said}

@@ -1,4 +1,4 @@
-use Rattle.std.proofs.Common.{◌≡◌, ◌⊎◌, ℕ, List, Err, MatchResult, length, map, sym, ap, subst, ◌∙◌, arith}
+use Rattle.std.proofs.Common.{◌≡◌, ◌⊎◌, ℕ, List, Err, map, sym, ap, subst, arith}
 use Rattle.std.proofs.lemmas.List.{length-map}
 use Rattle.std.proofs.lemmas.Result.{err_from_is_err_and, MatchResult-weaker}
 use Rattle.ml_search.specs.Program.{Program}
@@ -6,10 +6,9 @@ use Rattle.ml_search.specs.ProgramSeen.{program_seen}
 use Rattle.ml_term.specs.Tree.{Tree}
 use Rattle.ml_reader.specs.ItemsSeen.{items_seen}
 use Rattle.ml_reader.specs.Lexemes.{Written}
-use Rattle.ml_reader.specs.Rules.{AreRules, RulesGoWrong, IsRules, RulesHaveFault, in_text, in_rules}
+use Rattle.ml_reader.specs.Rules.{AreRules, RulesGoWrong, RulesHaveFault, in_text, in_rules}
 use Rattle.ml_reader.specs.Seen.{read_seen}
 use Rattle.ml_reader.specs.declared.fault.ReadFault.{ReadFault}
-use Rattle.ml_reader.specs.declared.fault.ReadStop.{ReadStop}
 use Rattle.ml_reader.specs.declared.fault.ReadStop.TheVariants.{Fault, OutOfMemory}
 use Rattle.ml_reader.specs.declared.rules.Rules.{Rules}
 use Rattle.ml_reader.proofs.Beginnings.{stand_by}

@@ -1,4 +1,4 @@
-use Rattle.std.proofs.Common.{◌≡◌, ◌+◌, ◌≤◌, length, map, take, subst, sym, arith}
+use Rattle.std.proofs.Common.{◌+◌, ◌≤◌, length, map, take, subst, sym, arith}
 use Rattle.std.proofs.lemmas.Result.{err_from_is_err_and}
 use Rattle.ml_reader.specs.Rules.{Declare}
 use Rattle.ml_reader.specs.Seen.{read_seen}

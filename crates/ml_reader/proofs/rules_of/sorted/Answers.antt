@@ -1,14 +1,10 @@
-use Rattle.std.proofs.Common.{◌≡◌, ◌∷◌, [], List, true, length, map, sym, ap, subst, ◌∙◌}
+use Rattle.std.proofs.Common.{◌≡◌, [], map, sym, ap, subst, ◌∙◌}
 use Rattle.std.proofs.lemmas.List.{nil_from_length}
 use Rattle.std.proofs.lemmas.Result.{err_from_is_err_and}
-use Rattle.std.specs.List.{filter_map}
 use Rattle.ml_search.specs.ClauseSeen.{clauses_seen}
-use Rattle.ml_search.specs.Program.{Clause}
 use Rattle.ml_search.specs.WellFormed.{are_undeclared}
-use Rattle.ml_term.specs.Tree.{Tree}
 use Rattle.ml_reader.specs.ItemsSeen.{items_seen}
-use Rattle.ml_reader.specs.Lexemes.{Written}
-use Rattle.ml_reader.specs.Rules.{AreRules, are_items}
+use Rattle.ml_reader.specs.Rules.{are_items}
 use Rattle.ml_reader.specs.Seen.{read_seen}
 use Rattle.ml_reader.proofs.OneAfterAnother.{handed_on}
 use Rattle.ml_reader.proofs.PartsKept.{clauses_kept, items_kept}

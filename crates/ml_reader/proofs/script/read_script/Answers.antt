@@ -1,10 +1,9 @@
-use Rattle.std.proofs.Common.{◌≡◌, ◌≤◌, ◌*◌, List, length, map, arith, sym, ap, ◌∙◌, inl, inr, Ok, Err}
+use Rattle.std.proofs.Common.{map, arith, ap, ◌∙◌, inl, inr, Err}
 use Rattle.std.proofs.lemmas.List.{length-map}
 use Rattle.std.proofs.lemmas.Result.{err_from_is_err_and}
 use Rattle.ml_reader.specs.Faults.{HasFirstFault}
 use Rattle.ml_reader.specs.declared.fault.ReadFault.{ReadFault}
 use Rattle.ml_reader.specs.Seen.{read_seen}
-use Rattle.ml_reader.specs.declared.fault.ReadStop.TheVariants as read_stop
 use Rattle.ml_reader.proofs.ScriptAnswers.{refused_fault, refused_complete, refused_first, read_script, read_fault, read_complete, read_first}
 use Rattle.ml_reader.proofs.ScriptSizes.{few_clauses}
 use Rattle.ml_reader.proofs.script.read_script.Goals as goal

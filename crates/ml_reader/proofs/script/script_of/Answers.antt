@@ -1,8 +1,6 @@
-use Rattle.std.proofs.Common.{◌≡◌, ◌≤◌, length, map, arith}
+use Rattle.std.proofs.Common.{◌≡◌, length, map, arith}
 use Rattle.std.proofs.lemmas.List.{length-map}
 use Rattle.std.specs.Vec.Iter.{into_iter_items}
-use Rattle.ml_reader.specs.Scripts.{IsScriptOf}
-use Rattle.ml_reader.specs.ScriptItems.{finished}
 use Rattle.ml_reader.specs.ScriptSeen.{draft_seen}
 use Rattle.ml_reader.specs.Seen.{read_seen}
 use Rattle.ml_reader.proofs.ScriptRuns.{whole_script, some_budget, few_inferences, few_goals}

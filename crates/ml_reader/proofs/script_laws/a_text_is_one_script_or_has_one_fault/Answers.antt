@@ -1,5 +1,5 @@
 use Rattle.ml_reader.proofs.script_laws.a_text_is_one_script_or_has_one_fault.Goals as goal
-use Rattle.ml_reader.proofs.ScriptReadings.{one_script, one_fault, no_fault}
+use Rattle.ml_reader.proofs.ScriptReadings.{one_script, one_fault, no_fault, script_or_fault}
 
 pub returns-clause-script : goal.returns-clause-script
 returns-clause-script c = one_script
@@ -9,3 +9,6 @@ returns-clause-fault c = one_fault
 
 pub returns-clause-not_both : goal.returns-clause-not_both
 returns-clause-not_both c = no_fault
+
+pub returns-clause-either : goal.returns-clause-either
+returns-clause-either c = script_or_fault

@@ -1,97 +1,91 @@
--- What is printed of a history of one session with one goal, by what the goal finds.
-use Rattle.std.proofs.Common.{◌≡◌, ℕ, ◌+◌, ◌*◌, ◌≤◌, suc, false, nat_lt, List, [], ◌∷◌, ◌++◌, length, map, codes, Some, None, refl, sym, ap, ◌∙◌, append_assoc, append-nil, cond, arith}
-use Rattle.std.specs.List.{flat_map, list_any}
-use Rattle.std.proofs.lemmas.Grind.{flat_map-append}
-use Rattle.std.proofs.lemmas.List.Folds.{flat_map-map}
-use Rattle.std.proofs.lemmas.Bool.Decides.{nat_tests}
+-- The blocks of entries over the same lists, one after another, and the print of their history.
+use Rattle.std.proofs.Common.{◌≡◌, refl, sym, ap, ◌∙◌, subst, ◌+◌, zero, suc, ◌<◌, ◌&&◌, ℕ, Bool, true, false, List, [], ◌∷◌, ◌++◌, map, length, get_or, Some, slice_get, option_map, arith}
+use Rattle.std.proofs.lemmas.List.{map-append, append-nil}
+use Rattle.std.proofs.lemmas.Option.{slice_get-map, slice_get_read}
+use Rattle.std.specs.List.{flat_map, list_all}
+use Rattle.ml_term.specs.Keys.{numbers_from}
 use Rattle.ml_term.specs.Tree.{Tree}
-use Rattle.ml_search.specs.Limits.{most_answer_bytes}
-use Rattle.ml_search.specs.Program.{Program, Goal, Script, commit}
-use Rattle.ml_search.specs.Db.{Db}
-use Rattle.ml_search.specs.Errors.{is_too_large, resource_error}
-use Rattle.ml_search.specs.Search.{Outcome}
-use Rattle.ml_search.specs.Session.{Session, asked, answer_line, Written, written, goal_line, count_line, error_line, with_line, with_lines, uncommitted, committed, raised_in}
-use Rattle.ml_search.specs.History.{history}
-use Rattle.ml_search.specs.Printed.{printed, session_line, ending_text}
-use Rattle.ml_search.specs.declared.ending.Ending.TheVariants.{Committed, Failed}
-use Rattle.ml_run.specs.Answering.{block_text}
-use Rattle.ml_run.proofs.Searching.{out}
+use Rattle.ml_term.proofs.DefaultKeys.{one_number_more}
+use Rattle.ml_search.specs.Db.{Db, loaded}
+use Rattle.ml_search.specs.History.{Entry, ran, script_of, history}
+use Rattle.ml_search.specs.Loading.{first_lists}
+use Rattle.ml_search.specs.Endings.{entry_ending}
+use Rattle.ml_search.specs.Printed.{block, printed, session_line, ending_text}
+use Rattle.ml_search.specs.Program.{Program, Script}
+use Rattle.ml_search.specs.Session.{Session}
+use Rattle.ml_search.specs.declared.ending.Ending.{Ending}
+use Rattle.ml_search.specs.declared.ending.Ending.TheVariants.{Committed, Aborted, Refused, Failed}
+use Rattle.ml_writer.specs.Output.{Output, bytes_of}
+use Rattle.ml_relation.specs.Entries.{entry_over}
+use Rattle.ml_relation.specs.Running.{IsRun}
+use Rattle.ml_run.specs.Entries.{entry_text, AreBlocks}
+use Rattle.ml_run.specs.Prints.{Printed}
 
--- lines that may be written: no term is too large, and each line is short
-abbrev pub IsShort : ℕ → Goal → List Tree → Type 0
-IsShort limit g ts = (list_any is_too_large ts ≡ false) × (length (answer_line g ts) ≤ limit)
+and_first : (a b : Bool) → (a && b) ≡ true → a ≡ true
+and_first true b e = refl
+and_first false b e = e
 
-abbrev pub AllShort : ℕ → Goal → List (List Tree) → Type 0
-AllShort limit g [] = Unit {0}
-AllShort limit g (ts ∷ found) = IsShort limit g ts × AllShort limit g found
+and_second : (a b : Bool) → (a && b) ≡ true → b ≡ true
+and_second true b e = e
+and_second false b e = cc
 
--- all lines of a goal are written
-record AllWritten (w : Written) (lines : List (List ℕ)) : Type 0 where
-  lines_are : w.lines ≡ lines
-  no_fault : w.fault ≡ None
+pub no_blocks : (p : Program) (db : Db) (scripts : List Script) → AreBlocks p db scripts 0 []
+no_blocks p db scripts = record { order = []; numbers = refl; are = refl }
 
-not_over : (limit n : ℕ) → n ≤ limit → nat_lt limit n ≡ false
-not_over limit n h = grind (arith, nat_tests)
-
-with_answer : (g : Goal) (ts : List Tree) (found : List (List Tree)) (bytes : ℕ) (ls : List (List ℕ)) → list_any is_too_large ts ≡ false → bytes + length (answer_line g ts) ≤ most_answer_bytes
-    → AllWritten (written g found (bytes + length (answer_line g ts))) ls → AllWritten (written g (ts ∷ found) bytes) (answer_line g ts ∷ ls)
-with_answer g ts found bytes ls small fits rest =
-    let over_term : Written = record { lines = []; bytes = bytes; fault = Some (resource_error (codes "term")) } in
-    let over_output : Written = record { lines = []; bytes = bytes; fault = Some (resource_error (codes "output")) } in
-    let more : Written = with_line (answer_line g ts) (written g found (bytes + length (answer_line g ts))) in
-    let same : written g (ts ∷ found) bytes ≡ more =
-    ap (λ b. cond b over_term (cond (nat_lt most_answer_bytes (bytes + length (answer_line g ts))) over_output more)) small
-    ∙ ap (λ b. cond b over_output more) (not_over most_answer_bytes (bytes + length (answer_line g ts)) fits) in
-    record {
-      lines_are = ap (λ w. w.lines) same ∙ ap (λ ls. answer_line g ts ∷ ls) rest.lines_are;
-      no_fault = ap (λ w. w.fault) same ∙ rest.no_fault;
+pub one_block_more : (p : Program) (db : Db) (scripts : List Script) (n number : ℕ) (blocks : List (List ℕ)) (s : Script) (out_of_memory : Bool) (bytes : List ℕ) → AreBlocks p db scripts n blocks
+    → number ≡ suc n → slice_get scripts n ≡ Some s → bytes ≡ block (record { number = number; ran = ran p (Some s) out_of_memory db }) → AreBlocks p db scripts (n + 1) (blocks ++ bytes ∷ [])
+one_block_more p db scripts n number blocks s out_of_memory bytes before e is b =
+    let o : ℕ × Bool = (n + 1, out_of_memory) in record {
+      order = before.order ++ o ∷ [];
+      numbers = map-append (λ o. o.0) before.order (o ∷ []) ∙ ap (λ ns. ns ++ (n + 1) ∷ []) before.numbers ∙ one_number_more n;
+      are = ap (λ bs. bs ++ bytes ∷ []) before.are ∙ ap (λ b. map block_at before.order ++ b ∷ []) (b ∙ same) ∙ sym (map-append block_at before.order (o ∷ []));
     }
+  where
+    block_at : ℕ × Bool → List ℕ
+    block_at o = block (entry_over p db scripts o)
 
-all_written : (limit : ℕ) (g : Goal) (found : List (List Tree)) (bytes : ℕ) → AllShort limit g found → bytes + limit * length found ≤ most_answer_bytes
-    → AllWritten (written g found bytes) (map (answer_line g) found)
-all_written limit g [] bytes short room = record { lines_are = refl; no_fault = refl }
-all_written limit g (ts ∷ found) bytes short room =
-    let more : limit * suc (length found) ≡ limit + limit * length found = omega arith in
-    with_answer g ts found bytes (map (answer_line g) found) short.0.0 (let line = short.0.1 in omega (arith, more))
-    (all_written limit g found (bytes + length (answer_line g ts)) short.1 (let line = short.0.1 in omega (arith, more)))
+    this : n + 1 ≡ suc n
+    this = omega arith
 
--- a script of one goal that commits
-abbrev one_goal : ℕ → Goal → Script
-one_goal budget g = record { budget = budget; goals = g ∷ []; last = commit }
+    same : block (record { number = number; ran = ran p (Some s) out_of_memory db }) ≡ block (entry_over p db scripts (n + 1, out_of_memory))
+    same =
+        ap (λ k. block (record { number = k; ran = ran p (Some s) out_of_memory db })) (e ∙ sym this)
+        ∙ ap (λ script. block (record { number = n + 1; ran = ran p script out_of_memory db })) (sym is ∙ sym (ap (script_of scripts) this))
 
--- what a session of one goal is, by what its goal finds
-abbrev told : Goal → Db → Outcome → Session
-told g db o =
-    let w : Written = written g o.found 0 in
-    with_lines (goal_line 1 ∷ w.lines)
-    (elim (raised_in w o) [
-      | Some t ↦ uncommitted (error_line t ∷ []) (Failed 1) db
-      | None ↦ with_lines (count_line (length o.found) ∷ []) (committed o.lists)
-    ])
+-- the blocks together are the print of the entries
+joined : (f : ℕ × Bool → Entry) (order : List (ℕ × Bool)) → flat_map (λ b. b) (map (λ o. block (f o)) order) ≡ printed (map f order)
+joined f [] = refl
+joined f (o ∷ order) = ap (λ bs. block (f o) ++ bs) (joined f order)
 
--- a goal that finds all its answers and writes all their lines
-told_is : (g : Goal) (db : Db) (found : List (List Tree)) (left : ℕ) (ls : List (List ℕ)) → AllWritten (written g found 0) ls
-    → told g db (out found (record { db = db; made = [] }) left) ≡ record { lines = goal_line 1 ∷ (ls ++ count_line (length found) ∷ []); ending = Committed; db = db; changes = [] }
-told_is g db found left ls w = rw (w.no_fault, w.lines_are) refl
+-- what happened to the blocks happened to the printed history
+pub blocks_printed : (p : Program) (items : List (ℕ × Tree)) (scripts : List Script) (lists : List (List Tree)) (n : ℕ) (blocks : List (List ℕ)) (happened : List ℕ → Type 0)
+    → lists ≡ first_lists p.decls items
+    → ((order : List (ℕ × Bool)) → history p (loaded lists) scripts order ≡ (map (entry_over p (loaded lists) scripts) order, loaded lists))
+    → n ≡ length scripts → AreBlocks p (loaded lists) scripts n blocks → happened (flat_map (λ b. b) blocks) → Printed p items scripts happened
+blocks_printed p items scripts lists n blocks happened e law many are h = record {
+  order = are.order;
+  numbers = are.numbers ∙ ap (numbers_from 1) many;
+  happened_to = subst happened (ap (flat_map (λ b. b)) are.are ∙ joined (entry_over p (loaded lists) scripts) are.order ∙ sym (ap (λ h. printed h.0) (law are.order)) ∙ ap (λ ls. printed (history p (loaded ls) scripts are.order).0) e) h;
+}
 
--- a session's block
-abbrev block_of : Session → List ℕ
-block_of s = (session_line 1 (ending_text s.ending) ++ flat_map (λ l. l) s.lines) ++ []
+-- a test that all values pass
+pub test_at : {A B : Type 0} (f : A → B) (p : B → Bool) (xs : List A) (i : ℕ) (x : A) → i < length xs → x ≡ get_or xs i x → list_all p (map f xs) ≡ true → p (f x) ≡ true
+test_at f p [] i x lt e h = absurd (omega (arith, lt))
+test_at f p (y ∷ xs) zero x lt e h = subst (λ z. p (f z) ≡ true) (sym e) (and_first (p (f y)) (list_all p (map f xs)) h)
+test_at f p (y ∷ xs) (suc i) x lt e h = test_at f p xs i x (omega (arith, lt)) e (and_second (p (f y)) (list_all p (map f xs)) h)
 
-lines_behind : (g : Goal) (found : List (List Tree)) (count : List ℕ) → flat_map (λ l. l) (map (answer_line g) found ++ count ∷ []) ≡ flat_map (answer_line g) found ++ count
-lines_behind g found count =
-    flat_map-append (λ l. l) (map (answer_line g) found) (count ∷ [])
-    ∙ ap (λ ls. ls ++ (count ++ [])) (flat_map-map (λ l. l) (answer_line g) found)
-    ∙ ap (λ l. flat_map (answer_line g) found ++ l) (append-nil count)
+pub value_at : {A B : Type 0} (f : A → B) (xs : List A) (i : ℕ) (x : A) → i < length xs → x ≡ get_or xs i x → slice_get (map f xs) i ≡ Some (f x)
+value_at f xs i x lt e = slice_get-map f xs i ∙ ap (option_map f) (slice_get_read xs (length xs) i x refl lt e)
 
--- the print of a goal that finds all its answers, if their lines may be written
-pub printed_is : (limit budget : ℕ) (program : Program) (g : Goal) (db : Db) (found : List (List Tree)) (left : ℕ)
-    → asked program g (record { db = db; made = [] }) budget ≡ out found (record { db = db; made = [] }) left
-    → AllShort limit g found → limit * length found ≤ most_answer_bytes
-    → printed (history program db (one_goal budget g ∷ []) ((1, false) ∷ [])).0 ≡ block_text g found
-printed_is limit budget program g db found left finds short room =
-    ap (λ o. block_of (told g db o)) finds
-    ∙ append-nil _
-    ∙ ap (λ s. session_line 1 (ending_text s.ending) ++ flat_map (λ l. l) s.lines) (told_is g db found left (map (answer_line g) found) (all_written limit g found 0 short (omega (arith, room))))
-    ∙ ap (λ ls. session_line 1 (codes "committed") ++ goal_line 1 ++ ls) (lines_behind g found (count_line (length found)))
-    ∙ sym (append_assoc (session_line 1 (codes "committed") ++ goal_line 1) (flat_map (answer_line g) found) (count_line (length found)))
+ending_is : (e : Ending) → entry_text (entry_ending e) ≡ ending_text e
+ending_is Committed = refl
+ending_is Aborted = refl
+ending_is Refused = refl
+ending_is (Failed j) = refl
+
+-- the line of a session and its lines are its block
+pub block_text : (number : ℕ) (s : Session) (o : Output) (e : Ending) (line bytes : List ℕ) → line ≡ session_line number (entry_text (entry_ending e)) → bytes ≡ bytes_of o → IsRun s o e
+    → line ++ bytes ≡ block (record { number = number; ran = Some s })
+block_text number s o e line bytes l b run =
+    ap (λ line. line ++ bytes) (l ∙ ap (session_line number) (ending_is e) ∙ ap (λ e. session_line number (ending_text e)) run.ending_is)
+    ∙ ap (λ bytes. session_line number (ending_text s.ending) ++ bytes) (b ∙ ap (λ rest. flat_map (λ l. l) o.lines ++ rest) run.finished ∙ append-nil (flat_map (λ l. l) o.lines) ∙ ap (flat_map (λ l. l)) run.lines_are)

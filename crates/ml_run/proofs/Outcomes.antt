@@ -1,66 +1,72 @@
 -- The words lead to one outcome.
-use Rattle.std.proofs.Common.{◌≡◌, ◌∷◌, [], refl, sym, ap, ◌∙◌, subst, length, ℕ, List, inl, inr, arith}
+use Rattle.std.proofs.Common.{◌≡◌, ◌∷◌, ◌+◌, [], refl, sym, ap, ◌∙◌, subst, length, ℕ, List, Result, Ok, Err, inl, inr, arith}
 use Rattle.ml_outside.specs.Held.{Files}
-use Rattle.ml_term.specs.Tree.{Tree}
-use Rattle.ml_term.specs.declared.declaration.Decl.{Decl}
-use Rattle.ml_search.specs.Program.{Goal}
-use Rattle.ml_run.specs.form.Grammar.{SpellsRules, SpellsScript}
-use Rattle.ml_run.specs.Texts.{Text, absent, long, text, Holds}
-use Rattle.ml_run.specs.Outcomes.{Outcome, inputs, ScriptLeads, RulesLead, FilesLead, Leads}
+use Rattle.ml_search.specs.Program.{Program, Script}
+use Rattle.ml_reader.specs.Rules.{IsRules, RulesHaveFault}
+use Rattle.ml_reader.specs.ScriptTexts.{IsScript, HasScriptFault}
+use Rattle.ml_reader.specs.declared.fault.ReadFault.{ReadFault}
+use Rattle.ml_reader.proofs.ScriptReadings.{one_script, one_fault, no_fault}
+use Rattle.ml_run.specs.Texts.{Found, absent, long, faulty, spelled, IsFound, Loads}
+use Rattle.ml_run.specs.Outcomes.{Outcome, rules_come, script_comes, RulesCome, ScriptComes, with_script, FirstComes, ScriptsCome, outcome_of, RulesLead, FilesLead, Leads}
+use Rattle.ml_run.specs.declared.status.Status.{Status}
+use Rattle.ml_run.proofs.RulesReadings.{OneFault, ReadOrFault, one_rules, one_rules_fault, rules_or_fault}
 
--- texts of rules are told apart by their bytes alone
-abbrev pub OneReading : Type 0
-OneReading = (bytes : List ℕ) (d other : Decl) (facts others : List Tree) → SpellsRules bytes d facts → SpellsRules bytes other others → (d ≡ other) × (facts ≡ others)
+-- a file is one thing, where a text spells one thing or has one fault
+module _ {A : Type 0} (Spells : List ℕ → A → Type 0) (HasFault : List ℕ → ReadFault → Type 0) (one : (bytes : List ℕ) (a b : A) → Spells bytes a → Spells bytes b → a ≡ b)
+    (once : (bytes : List ℕ) (f g : ReadFault) → HasFault bytes f → HasFault bytes g → f ≡ g) (apart : (bytes : List ℕ) (a : A) (f : ReadFault) → Spells bytes a → HasFault bytes f → ⊥) where
+  one_found : (files : Files) (name : List ℕ) (x y : Found A) → IsFound Spells HasFault files name x → IsFound Spells HasFault files name y → x ≡ y
+  one_found files name absent absent h k = refl
+  one_found files name absent long h k = cc (h, k.1)
+  one_found files name absent (faulty g) h k = cc (h, k.1.0)
+  one_found files name absent (spelled b) h k = cc (h, k.1.0)
+  one_found files name long absent h k = cc (k, h.1)
+  one_found files name long long h k = refl
+  one_found files name long (faulty g) h k = let same : h.0 ≡ k.0 = cc (h.1, k.1.0) in absurd (omega (arith, ap length same, h.2, k.1.1))
+  one_found files name long (spelled b) h k = let same : h.0 ≡ k.0 = cc (h.1, k.1.0) in absurd (omega (arith, ap length same, h.2, k.1.1))
+  one_found files name (faulty f) absent h k = cc (k, h.1.0)
+  one_found files name (faulty f) long h k = let same : h.0 ≡ k.0 = cc (h.1.0, k.1) in absurd (omega (arith, ap length same, h.1.1, k.2))
+  one_found files name (faulty f) (faulty g) h k = let same : h.0 ≡ k.0 = cc (h.1.0, k.1.0) in ap faulty (once k.0 f g (subst (λ bytes. HasFault bytes f) same h.2) k.2)
+  one_found files name (faulty f) (spelled b) h k = let same : h.0 ≡ k.0 = cc (h.1.0, k.1.0) in absurd (apart k.0 b f k.2 (subst (λ bytes. HasFault bytes f) same h.2))
+  one_found files name (spelled a) absent h k = cc (k, h.1.0)
+  one_found files name (spelled a) long h k = let same : h.0 ≡ k.0 = cc (h.1.0, k.1) in absurd (omega (arith, ap length same, h.1.1, k.2))
+  one_found files name (spelled a) (faulty g) h k = let same : h.0 ≡ k.0 = cc (h.1.0, k.1.0) in absurd (apart k.0 a g (subst (λ bytes. Spells bytes a) same h.2) k.2)
+  one_found files name (spelled a) (spelled b) h k = let same : h.0 ≡ k.0 = cc (h.1.0, k.1.0) in ap spelled (one k.0 a b (subst (λ bytes. Spells bytes a) same h.2) k.2)
 
--- scripts of one predicate are told apart by their bytes alone
-abbrev pub OneGoal : Type 0
-OneGoal = (bytes : List ℕ) (d : Decl) (g other : Goal) → SpellsScript bytes d g → SpellsScript bytes d other → g ≡ other
+one_rules_come : OneFault → ReadOrFault → (files : Files) (name : List ℕ) (a b : Result Loads Status) → RulesCome files name a → RulesCome files name b → a ≡ b
+one_rules_come once apart files name a b h k =
+    sym h.2 ∙ ap rules_come (one_found (λ bytes (r : Loads). IsRules bytes r.0 r.1) RulesHaveFault one_rules (one_rules_fault once apart) (rules_or_fault once apart) files name h.0 k.0 h.1 k.1) ∙ k.2
 
--- a name stands for one text
-pub one_text : (files : Files) (name : List ℕ) (t u : Text) → Holds files name t → Holds files name u → t ≡ u
-one_text files name absent absent h k = refl
-one_text files name absent long h k = cc (k.1)
-one_text files name absent (text others) h k = cc (k.0)
-one_text files name long absent h k = cc (h.1)
-one_text files name long long h k = refl
-one_text files name long (text others) h k = let same : h.0 ≡ others = cc (h.1, k.0) in absurd (omega (arith, ap length same, h.2, k.1))
-one_text files name (text bytes) absent h k = cc (h.0)
-one_text files name (text bytes) long h k = let same : k.0 ≡ bytes = cc (k.1, h.0) in absurd (omega (arith, ap length same, k.2, h.1))
-one_text files name (text bytes) (text others) h k = let same : bytes ≡ others = cc (h.0, k.0) in ap text same
+one_script_comes : (files : Files) (p : Program) (n : ℕ) (name : List ℕ) (a b : Result Script Status) → ScriptComes files p n name a → ScriptComes files p n name b → a ≡ b
+one_script_comes files p n name a b h k = sym h.2 ∙ ap (script_comes p n) (one_found IsScript HasScriptFault one_script one_fault no_fault files name h.0 k.0 h.1 k.1) ∙ k.2
 
-one_script : OneGoal → (d : Decl) (facts : List Tree) (t : Text) (a b : Outcome) → ScriptLeads d facts t a → ScriptLeads d facts t b → a ≡ b
-one_script reading d facts absent a b h k = h ∙ sym k
-one_script reading d facts long a b h k = h ∙ sym k
-one_script reading d facts (text bytes) a b (inl h) (inl k) = h.1 ∙ sym k.1
-one_script reading d facts (text bytes) a b (inl h) (inr k) = absurd (h.0 k.0 k.1)
-one_script reading d facts (text bytes) a b (inr h) (inl k) = absurd (k.0 h.0 h.1)
-one_script reading d facts (text bytes) a b (inr h) (inr k) = h.2 ∙ ap (inputs d facts) (reading bytes d h.0 k.0 h.1 k.1) ∙ sym k.2
+one_behind : (first : Result Script Status) (Behind : Result (List Script) Status → Type 0) → ((x y : Result (List Script) Status) → Behind x → Behind y → x ≡ y)
+    → (a b : Result (List Script) Status) → FirstComes first Behind a → FirstComes first Behind b → a ≡ b
+one_behind (Err status) Behind one a b h k = h ∙ sym k
+one_behind (Ok s) Behind one a b h k = h.2 ∙ ap (with_script s) (one h.0 k.0 h.1 k.1) ∙ sym k.2
 
-one_rules : OneReading → OneGoal → (files : Files) (script : List ℕ) (t : Text) (a b : Outcome) → RulesLead files script t a → RulesLead files script t b → a ≡ b
-one_rules reading again files script absent a b h k = h ∙ sym k
-one_rules reading again files script long a b h k = h ∙ sym k
-one_rules reading again files script (text bytes) a b (inl h) (inl k) = h.1 ∙ sym k.1
-one_rules reading again files script (text bytes) a b (inl h) (inr k) = absurd (h.0 k.0 k.1 k.2)
-one_rules reading again files script (text bytes) a b (inr h) (inl k) = absurd (k.0 h.0 h.1 h.2)
-one_rules reading again files script (text bytes) a b (inr h) (inr k) =
-    let same = reading bytes h.0 k.0 h.1 k.1 h.2 k.2 in
-    let held = one_text files script h.3 k.3 h.4 k.4 in
-    let here = subst (λ n. ScriptLeads n h.1 h.3 a) same.0 h.5 in
-    let there = subst (λ fs. ScriptLeads k.0 fs h.3 a) same.1 here in
-    one_script again k.0 k.1 k.3 a b (subst (λ t. ScriptLeads k.0 k.1 t a) held there) k.5
+one_scripts_come : (files : Files) (p : Program) (n : ℕ) (names : List (List ℕ)) (a b : Result (List Script) Status) → ScriptsCome files p n names a → ScriptsCome files p n names b → a ≡ b
+one_scripts_come files p n [] a b h k = h ∙ sym k
+one_scripts_come files p n (name ∷ names) a b h k =
+    let same = one_script_comes files p n name h.0 k.0 h.1 k.1 in
+    let here = subst (λ first. FirstComes first (λ rest. ScriptsCome files p (1 + n) names rest) a) same h.2 in
+    one_behind k.0 (λ rest. ScriptsCome files p (1 + n) names rest) (one_scripts_come files p (1 + n) names) a b here k.2
 
-one_files : OneReading → OneGoal → (files : Files) (rules script : List ℕ) (a b : Outcome) → FilesLead files rules script a → FilesLead files rules script b → a ≡ b
-one_files reading again files rules script a b h k =
-    let held = one_text files rules h.0 k.0 h.1 k.1 in
-    one_rules reading again files script k.0 a b (subst (λ t. RulesLead files script t a) held h.2) k.2
+one_rules_lead : (files : Files) (scripts : List (List ℕ)) (r : Result Loads Status) (a b : Outcome) → RulesLead files scripts r a → RulesLead files scripts r b → a ≡ b
+one_rules_lead files scripts (Err status) a b h k = h ∙ sym k
+one_rules_lead files scripts (Ok r) a b h k = h.2 ∙ ap (outcome_of r) (one_scripts_come files r.0 1 scripts h.0 k.0 h.1 k.1) ∙ sym k.2
 
-pub one_outcome : OneReading → OneGoal → (files : Files) (words : List (List ℕ)) (a b : Outcome) → Leads files words a → Leads files words b → a ≡ b
-one_outcome reading again files words a b (inl h) (inl k) = h.1 ∙ sym k.1
-one_outcome reading again files words a b (inl h) (inr k) = absurd (h.0 k.0 k.1 k.2)
-one_outcome reading again files words a b (inr h) (inl k) = absurd (k.0 h.0 h.1 h.2)
-one_outcome reading again files words a b (inr h) (inr k) =
-    let same : h.0 ∷ h.1 ∷ [] ≡ k.0 ∷ k.1 ∷ [] = cc (h.2.are, k.2.are) in
+one_files : OneFault → ReadOrFault → (files : Files) (rules : List ℕ) (scripts : List (List ℕ)) (a b : Outcome) → FilesLead files rules scripts a → FilesLead files rules scripts b → a ≡ b
+one_files once apart files rules scripts a b h k =
+    let same = one_rules_come once apart files rules h.0 k.0 h.1 k.1 in
+    one_rules_lead files scripts k.0 a b (subst (λ r. RulesLead files scripts r a) same h.2) k.2
+
+pub one_outcome : OneFault → ReadOrFault → (files : Files) (words : List (List ℕ)) (a b : Outcome) → Leads files words a → Leads files words b → a ≡ b
+one_outcome once apart files words a b (inl h) (inl k) = h.1 ∙ sym k.1
+one_outcome once apart files words a b (inl h) (inr k) = absurd (h.0 k.0 k.1 k.2)
+one_outcome once apart files words a b (inr h) (inl k) = absurd (k.0 h.0 h.1 h.2)
+one_outcome once apart files words a b (inr h) (inr k) =
+    let same : h.0 ∷ h.1 ≡ k.0 ∷ k.1 = cc (h.2.are, k.2.are) in
     let same_rules : h.0 ≡ k.0 = cc in
-    let same_script : h.1 ≡ k.1 = cc in
+    let same_scripts : h.1 ≡ k.1 = cc in
     let here = subst (λ r. FilesLead files r h.1 a) same_rules h.3 in
-    one_files reading again files k.0 k.1 a b (subst (λ s. FilesLead files k.0 s a) same_script here) k.3
+    one_files once apart files k.0 k.1 a b (subst (λ s. FilesLead files k.0 s a) same_scripts here) k.3

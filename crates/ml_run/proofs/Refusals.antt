@@ -1,118 +1,177 @@
 -- From why a step gave no result to why the run ended as it did.
-use Rattle.std.proofs.Common.{◌≡◌, refl, sym, ap, ◌∙◌, subst, ◌<◌, ◌≤◌, ◌⊎◌, ℕ, List, IfSome, Option, None, Some, inl, inr, length, arith}
+use Rattle.std.proofs.Common.{◌≡◌, refl, sym, ap, ◌∙◌, subst, ◌<◌, ◌≤◌, ◌+◌, ◌⊎◌, ℕ, suc, List, ◌∷◌, IfSome, Option, None, Some, Ok, Err, Bool, true, false, ◌&&◌, inl, inr, length, take, drop, codes, arith}
+use Rattle.std.specs.FinMap as map
+use Rattle.std.specs.List.{list_all}
+use Rattle.std.proofs.lemmas.List.{take-append-drop, length-take}
+use Rattle.std.proofs.lemmas.List.Folds.{list_all-append}
 use Rattle.std.proofs.lemmas.Option.{IfSome_then}
 use Rattle.ml_outside.specs.Held.{Files}
 use Rattle.ml_outside.specs.Causes.{Rose}
-use Rattle.ml_term.specs.Tree.{Tree}
-use Rattle.ml_term.specs.declared.declaration.Decl.{Decl}
-use Rattle.ml_search.specs.Program.{Goal}
-use Rattle.ml_run.specs.Words.{AreWords, NamesFile}
-use Rattle.ml_run.specs.Texts.{absent, long, text, Holds, HoldsRules, HoldsNoRules, HoldsScript, HoldsNoScript}
-use Rattle.ml_run.specs.Outcomes.{refused, inputs, Leads, HasInputs, status_of}
-use Rattle.ml_run.specs.Causes.{RulesRefused, ScriptRefused, WriteRefused, Refused}
-use Rattle.ml_run.specs.Answers.{Counts, IsCaused, IsQuiet, TellsOutcome, RefusesFile, ReachesFile}
+use Rattle.ml_search.specs.Program.{Program, Script}
+use Rattle.ml_run.specs.Words.{AreWords, NamesFile, is_name}
+use Rattle.ml_run.specs.Texts.{Loads}
+use Rattle.ml_run.specs.Outcomes.{Outcome, refused, inputs, RulesCome, ScriptsCome, FilesLead, Leads, HasInputs, status_of}
+use Rattle.ml_run.specs.Causes.{HoldsLong, FetchStops, Stops, ScriptsStop, IsReached, FilesStop}
+use Rattle.ml_run.specs.Answers.{Counts, IsCaused, IsQuiet, TellsOutcome, RefusesFile}
+use Rattle.ml_run.specs.Prints.{IsBeginning}
 use Rattle.ml_run.specs.Status.{NamesWord}
 use Rattle.ml_run.specs.declared.status.Status.{Status}
-use Rattle.ml_run.specs.declared.status.Status.TheVariants.{Done, BadWords, NoFile, TooLong, ReadFailed, WriteFailed, OutOfMemory, NotBuilt}
-use Rattle.ml_run.proofs.Outcomes.{OneReading, OneGoal, one_outcome}
+use Rattle.ml_run.specs.declared.status.Status.TheVariants.{Done, BadWords, NoFile, TooLong, ReadFailed, RulesRefused, ScriptRefused, WriteFailed, OutOfMemory, NotBuilt}
+use Rattle.ml_run.proofs.Outcomes.{one_outcome}
+use Rattle.ml_run.proofs.RulesReadings.{OneFault, ReadOrFault}
 
 -- what two clauses say of a value in a Some
 pub both : {X : Type 0} (o : Option X) {P Q R : X → Type 0} → IfSome o P → IfSome o Q → ((x : X) → P x → Q x → R x) → IfSome o R
 both None p q f = tt
 both (Some x) p q f = f x p q
 
-rose_later : (before mid now : ℕ) → before ≤ mid → Rose mid now → Rose before now
+pub rose_later : (before mid now : ℕ) → before ≤ mid → Rose mid now → Rose before now
 rose_later before mid now le rose = omega arith
 
--- faults that rose from a later moment on rose
-pub script_later : (held : Option Files) (file : List ℕ) (d : Decl) (before mid now : ℕ) (status : Status) → before ≤ mid
-    → ScriptRefused held file d mid now status → ScriptRefused held file d before now status
-script_later held file d before mid now Done le h = h
-script_later held file d before mid now BadWords le h = h
-script_later held file d before mid now (NoFile i) le h = h
-script_later held file d before mid now (TooLong i) le h = h
-script_later held file d before mid now (ReadFailed i) le h = (h.0, rose_later before mid now le h.1)
-script_later held file d before mid now WriteFailed le h = h
-script_later held file d before mid now OutOfMemory le h = h
-script_later held file d before mid now (NotBuilt i) le h = h
+-- what stops a fetch stops what the text is wanted for
+pub fetch_stops : (held : Option Files) (name : List ℕ) (Leading : Files → Status → Type 0) (word before now : ℕ) (status : Status)
+    → ((files : Files) → map.get files name ≡ None → Leading files (NoFile word)) → ((files : Files) → HoldsLong files name → Leading files (TooLong word))
+    → FetchStops held name word before now status → Stops held Leading word before now status
+fetch_stops held name Leading word before now Done none long h = absurd h
+fetch_stops held name Leading word before now BadWords none long h = absurd h
+fetch_stops held name Leading word before now (NoFile i) none long h = (h.0, IfSome_then held h.1 (λ files e. subst (λ i. Leading files (NoFile i)) (sym h.0) (none files e)))
+fetch_stops held name Leading word before now (TooLong i) none long h = (h.0, IfSome_then held h.1 (λ files e. subst (λ i. Leading files (TooLong i)) (sym h.0) (long files e)))
+fetch_stops held name Leading word before now (ReadFailed i) none long h = h
+fetch_stops held name Leading word before now (RulesRefused f) none long h = absurd h
+fetch_stops held name Leading word before now (ScriptRefused k f) none long h = absurd h
+fetch_stops held name Leading word before now WriteFailed none long h = absurd h
+fetch_stops held name Leading word before now OutOfMemory none long h = tt
+fetch_stops held name Leading word before now (NotBuilt i) none long h = absurd h
+
+-- what stops a step stops one that began before, where this leads from the refusals of one to those of the other
+pub stops_behind : (held : Option Files) (Before : Files → Type 0) (Leading Leading' : Files → Status → Type 0) (word before mid now : ℕ) (status : Status) → before ≤ mid → IfSome held Before
+    → ((files : Files) (status : Status) → Before files → Leading files status → Leading' files status) → Stops held Leading word mid now status → Stops held Leading' word before now status
+stops_behind held Before Leading Leading' word before mid now Done le p f h = absurd h.0
+stops_behind held Before Leading Leading' word before mid now BadWords le p f h = absurd h.0
+stops_behind held Before Leading Leading' word before mid now (NoFile i) le p f h = (h.0, both held p h.1 (λ files p l. f files (NoFile i) p l))
+stops_behind held Before Leading Leading' word before mid now (TooLong i) le p f h = (h.0, both held p h.1 (λ files p l. f files (TooLong i) p l))
+stops_behind held Before Leading Leading' word before mid now (ReadFailed i) le p f h = (h.0, rose_later before mid now le h.1)
+stops_behind held Before Leading Leading' word before mid now (RulesRefused g) le p f h = (h.0, both held p h.1 (λ files p l. f files (RulesRefused g) p l))
+stops_behind held Before Leading Leading' word before mid now (ScriptRefused k g) le p f h = (h.0, both held p h.1 (λ files p l. f files (ScriptRefused k g) p l))
+stops_behind held Before Leading Leading' word before mid now WriteFailed le p f h = absurd h.0
+stops_behind held Before Leading Leading' word before mid now OutOfMemory le p f h = tt
+stops_behind held Before Leading Leading' word before mid now (NotBuilt i) le p f h = (h.0, both held p h.1 (λ files p l. f files (NotBuilt i) p l))
+
+-- want of memory stops every step
+pub no_script_stops : (held : Option Files) (p : Program) (names : List (List ℕ)) (got before now : ℕ) → got < length names
+    → IfSome held (λ files. (ss : List Script) × ScriptsCome files p 1 (take got names) (Ok ss)) → ScriptsStop held p names before now OutOfMemory
+no_script_stops held p names got before now there reached = record { got = got; there = there; reached = reached; stops = tt }
+
+-- what stops the rules stops the files
+pub rules_stop : (held : Option Files) (rules : List ℕ) (scripts : List (List ℕ)) (before now : ℕ) (status : Status)
+    → Stops held (λ files status. RulesCome files rules (Err status)) 1 before now status → FilesStop held rules scripts before now status
+rules_stop held rules scripts before now status h = record {
+  word = 1;
+  some = omega arith;
+  there = omega arith;
+  reached = first held;
+  stops = stops_behind held (λ files. Unit {0}) _ (λ files status. FilesLead files rules scripts (refused status)) 1 before before now status (omega arith) (nothing held) (λ files status _ r. (Err status, r, refl)) h;
+}
+  where
+    first : (held : Option Files) → IfSome held (λ files. IsReached files rules scripts 1)
+    first None = tt
+    first (Some files) = inl refl
+
+    nothing : (held : Option Files) → IfSome held (λ files. Unit {0})
+    nothing None = tt
+    nothing (Some files) = tt
+
+-- what stops the scripts behind rules that were read stops the files
+pub scripts_stop : (held : Option Files) (rules : List ℕ) (scripts : List (List ℕ)) (r : Loads) (before mid now : ℕ) (status : Status) → before ≤ mid
+    → IfSome held (λ files. RulesCome files rules (Ok r)) → ScriptsStop held r.0 scripts mid now status → FilesStop held rules scripts before now status
+scripts_stop held rules scripts r before mid now status le read h = record {
+  word = 2 + h.got;
+  some = omega arith;
+  there = omega (arith, h.there);
+  reached = both held read h.reached (λ files rs ss. inr (h.got, refl, r.0, r.1, ss.0, (Ok r, rs, (Ok ss.0, ss.1, refl))));
+  stops = stops_behind held (λ files. RulesCome files rules (Ok r)) _ (λ files status. FilesLead files rules scripts (refused status)) (2 + h.got) before mid now status le read (λ files status rs ss. (Ok r, rs, (Err status, ss, refl))) h.stops;
+}
+
+and_first : (a b : Bool) → (a && b) ≡ true → a ≡ true
+and_first true b e = refl
+and_first false b e = e
+
+list_all-take : {A : Type 0} (p : A → Bool) (n : ℕ) (xs : List A) → list_all p xs ≡ true → list_all p (take n xs) ≡ true
+list_all-take p n xs h =
+    let whole : (list_all p (take n xs) && list_all p (drop n xs)) ≡ true = sym (list_all-append p (take n xs) (drop n xs)) ∙ ap (list_all p) (take-append-drop n xs) ∙ h in
+    and_first (list_all p (take n xs)) (list_all p (drop n xs)) whole
+
+take_two : (n : ℕ) (a b : List ℕ) (xs : List (List ℕ)) → take (2 + n) (a ∷ b ∷ xs) ≡ a ∷ b ∷ take n xs
+take_two n a b xs = let e : 2 + n ≡ suc (suc n) = omega arith in ap (λ m. take m (a ∷ b ∷ xs)) e
+
+-- words up to one that names a file are words of the form
+shorter : (words : List (List ℕ)) (rules : List ℕ) (scripts : List (List ℕ)) (n : ℕ) → AreWords words rules scripts → AreWords (take (2 + n) words) rules (take n scripts)
+shorter words rules scripts n are = record {
+  are = ap (take (2 + n)) are.are ∙ take_two n (codes "serial") rules scripts;
+  rules_name = are.rules_name;
+  script_names = list_all-take is_name n scripts are.script_names;
+  few = omega (arith, length-take n scripts, are.few);
+}
 
 -- what the steps before a refusal say of the words
-module _ (words : List (List ℕ)) (rules script : List ℕ) (are : AreWords words rules script) where
-  no_rules : (files : Files) → Holds files rules absent → Leads files words (refused (NoFile 1))
-  no_rules files h = inr (rules, script, are, (absent, h, refl))
+module _ (words : List (List ℕ)) (rules : List ℕ) (scripts : List (List ℕ)) (are : AreWords words rules scripts) where
+  pub files_lead : (files : Files) (outcome : Outcome) → FilesLead files rules scripts outcome → Leads files words outcome
+  files_lead files outcome h = inr (rules, scripts, are, h)
 
-  long_rules : (files : Files) → Holds files rules long → Leads files words (refused (TooLong 1))
-  long_rules files h = inr (rules, script, are, (long, h, refl))
+  reached : (files : Files) (word : ℕ) → IsReached files rules scripts word → (word ≡ 1) ⊎ HasInputs files (take word words)
+  reached files word (inl e) = inl e
+  reached files word (inr h) =
+      inr (subst (λ word. HasInputs files (take word words)) (sym h.1) (h.2, h.3, h.4, inr (rules, take h.0 scripts, shorter words rules scripts h.0 are, h.5)))
 
-  other_rules : (files : Files) → HoldsNoRules files rules → Leads files words (refused (NotBuilt 1))
-  other_rules files h = inr (rules, script, are, (text h.0, h.1, inl (h.2, refl)))
+  refuses : (held : Option Files) (word i : ℕ) (status : Status) → i ≡ word → NamesFile words word → IfSome held (λ files. FilesLead files rules scripts (refused status)) → RefusesFile held words i status
+  refuses held word i status e names h = (subst (NamesFile words) (sym e) names, IfSome_then held h (λ files l. files_lead files (refused status) l))
 
-  no_script : (d : Decl) (facts : List Tree) (files : Files) → HoldsRules files rules d facts → Holds files script absent → Leads files words (refused (NoFile 2))
-  no_script d facts files r h = inr (rules, script, are, (text r.0, r.1, inr (d, facts, r.2, absent, h, refl)))
+  caused_at : (held : Option Files) (counts : Counts) (word : ℕ) (status : Status) → NamesFile words word → IfSome held (λ files. IsReached files rules scripts word)
+      → Stops held (λ files status. FilesLead files rules scripts (refused status)) word counts.reads counts.reads_now status → IsCaused held words counts status
+  caused_at held counts word Done names r h = absurd h.0
+  caused_at held counts word BadWords names r h = absurd h.0
+  caused_at held counts word (NoFile i) names r h = refuses held word i (NoFile i) h.0 names h.1
+  caused_at held counts word (TooLong i) names r h = refuses held word i (TooLong i) h.0 names h.1
+  caused_at held counts word (ReadFailed i) names r h =
+      (h.1, (subst (NamesFile words) (sym h.0) names, subst (λ i. IfSome held (λ files. (i ≡ 1) ⊎ HasInputs files (take i words))) (sym h.0) (IfSome_then held r (λ files. reached files word))))
+  caused_at held counts word (RulesRefused f) names r h = refuses held word 1 (RulesRefused f) (sym h.0) names h.1
+  caused_at held counts word (ScriptRefused k f) names r h = (h.0.0, refuses held word (1 + k) (ScriptRefused k f) (sym h.0.1) names h.1)
+  caused_at held counts word WriteFailed names r h = absurd h.0
+  caused_at held counts word OutOfMemory names r h = tt
+  caused_at held counts word (NotBuilt i) names r h = refuses held word i (NotBuilt i) h.0 names h.1
 
-  long_script : (d : Decl) (facts : List Tree) (files : Files) → HoldsRules files rules d facts → Holds files script long → Leads files words (refused (TooLong 2))
-  long_script d facts files r h = inr (rules, script, are, (text r.0, r.1, inr (d, facts, r.2, long, h, refl)))
+  pub caused_by_files : (held : Option Files) (counts : Counts) (status : Status) → FilesStop held rules scripts counts.reads counts.reads_now status → IsCaused held words counts status
+  caused_by_files held counts status h = caused_at held counts h.word status (rules, scripts, are, h.some, h.there) h.reached h.stops
 
-  other_script : (d : Decl) (facts : List Tree) (files : Files) → HoldsRules files rules d facts → HoldsNoScript files script d → Leads files words (refused (NotBuilt 2))
-  other_script d facts files r h = inr (rules, script, are, (text r.0, r.1, inr (d, facts, r.2, text h.0, h.1, inl (h.2, refl))))
+-- a step at a file ends in no print
+pub quiet_stop : (Leading : Files → Status → Type 0) (held : Option Files) (words : List (List ℕ)) (word before now : ℕ) (status : Status) (written : Option (List ℕ))
+    → Stops held Leading word before now status → IsBeginning held words written written status
+quiet_stop Leading held words word before now Done written h = absurd h.0
+quiet_stop Leading held words word before now BadWords written h = absurd h.0
+quiet_stop Leading held words word before now (NoFile i) written h = refl
+quiet_stop Leading held words word before now (TooLong i) written h = refl
+quiet_stop Leading held words word before now (ReadFailed i) written h = refl
+quiet_stop Leading held words word before now (RulesRefused f) written h = refl
+quiet_stop Leading held words word before now (ScriptRefused k f) written h = refl
+quiet_stop Leading held words word before now WriteFailed written h = absurd h.0
+quiet_stop Leading held words word before now OutOfMemory written h = inl refl
+quiet_stop Leading held words word before now (NotBuilt i) written h = refl
 
-  pub both_read : (d : Decl) (facts : List Tree) (g : Goal) (files : Files) → HoldsRules files rules d facts → HoldsScript files script d g
-      → Leads files words (inputs d facts g)
-  both_read d facts g files r h = inr (rules, script, are, (text r.0, r.1, inr (d, facts, r.2, text h.0, h.1, inr (g, h.2, refl))))
+pub not_done : (Leading : Files → Status → Type 0) (held : Option Files) (word before now : ℕ) (status : Status) → Stops held Leading word before now status → status ≡ Done → ⊥
+not_done Leading held word before now Done h e = absurd h.0
+not_done Leading held word before now BadWords h e = cc e
+not_done Leading held word before now (NoFile i) h e = cc e
+not_done Leading held word before now (TooLong i) h e = cc e
+not_done Leading held word before now (ReadFailed i) h e = cc e
+not_done Leading held word before now (RulesRefused f) h e = cc e
+not_done Leading held word before now (ScriptRefused k f) h e = cc e
+not_done Leading held word before now WriteFailed h e = cc e
+not_done Leading held word before now OutOfMemory h e = cc e
+not_done Leading held word before now (NotBuilt i) h e = cc e
 
-  -- a refusal of word i, told by its number
-  refuses : (held : Option Files) (i k : ℕ) (refusal : ℕ → Status) → i ≡ k → (k ≡ 1) ⊎ (k ≡ 2) → IfSome held (λ files. Leads files words (refused (refusal k))) → RefusesFile held words i (refusal i)
-  refuses held i k refusal e k_is h = subst (λ j. RefusesFile held words j (refusal j)) (sym e) ((rules, script, are, k_is), h)
-
-  by_rules : (held : Option Files) (counts : Counts) (status : Status) → RulesRefused held rules counts.reads counts.reads_now status → IsCaused held words counts status
-  by_rules held counts Done h = absurd h
-  by_rules held counts BadWords h = absurd h
-  by_rules held counts (NoFile i) h = refuses held i 1 NoFile h.0 (inl refl) (IfSome_then held h.1 no_rules)
-  by_rules held counts (TooLong i) h = refuses held i 1 TooLong h.0 (inl refl) (IfSome_then held h.1 long_rules)
-  by_rules held counts (ReadFailed i) h = (h.1, (rules, script, are, inl h.0))
-  by_rules held counts WriteFailed h = absurd h
-  by_rules held counts OutOfMemory h = tt
-  by_rules held counts (NotBuilt i) h = refuses held i 1 NotBuilt h.0 (inl refl) (IfSome_then held h.1 other_rules)
-
-  by_script : (held : Option Files) (counts : Counts) (d : Decl) (facts : List Tree) (status : Status) → IfSome held (λ files. HoldsRules files rules d facts)
-      → ScriptRefused held script d counts.reads counts.reads_now status → IsCaused held words counts status
-  by_script held counts d facts Done r h = absurd h
-  by_script held counts d facts BadWords r h = absurd h
-  by_script held counts d facts (NoFile i) r h = refuses held i 2 NoFile h.0 (inr refl) (both held r h.1 (no_script d facts))
-  by_script held counts d facts (TooLong i) r h = refuses held i 2 TooLong h.0 (inr refl) (both held r h.1 (long_script d facts))
-  by_script held counts d facts (ReadFailed i) r h = (h.1, (rules, script, are, inr (h.0, IfSome_then held r (λ files x. (d, facts, x)))))
-  by_script held counts d facts WriteFailed r h = absurd h
-  by_script held counts d facts OutOfMemory r h = tt
-  by_script held counts d facts (NotBuilt i) r h = refuses held i 2 NotBuilt h.0 (inr refl) (both held r h.1 (other_script d facts))
-
-  by_output : (held : Option Files) (counts : Counts) (d : Decl) (facts : List Tree) (g : Goal) (status : Status) → IfSome held (λ files. HoldsRules files rules d facts)
-      → IfSome held (λ files. HoldsScript files script d g) → WriteRefused counts.writes counts.writes_now status → IsCaused held words counts status
-  by_output held counts d facts g Done r s h = absurd h
-  by_output held counts d facts g BadWords r s h = absurd h
-  by_output held counts d facts g (NoFile i) r s h = absurd h
-  by_output held counts d facts g (TooLong i) r s h = absurd h
-  by_output held counts d facts g (ReadFailed i) r s h = absurd h
-  by_output held counts d facts g WriteFailed r s h = (h, both held r s (λ files x y. (d, facts, g, both_read d facts g files x y)))
-  by_output held counts d facts g OutOfMemory r s h = tt
-  by_output held counts d facts g (NotBuilt i) r s h = absurd h
-
-  pub caused : (held : Option Files) (counts : Counts) (status : Status) → Refused held rules script counts.reads counts.reads_now counts.writes counts.writes_now status
-      → IsCaused held words counts status
-  caused held counts status (inl h) = by_rules held counts status h
-  caused held counts status (inr (inl h)) = by_script held counts h.0 h.1 status h.2 h.3
-  caused held counts status (inr (inr h)) = by_output held counts h.0 h.1 h.2 status h.3 h.4 h.5
-
--- words of the form are three
-three : (words : List (List ℕ)) (rules script : List ℕ) → AreWords words rules script → length words ≡ 3
-three words rules script are = ap length are.are
-
+-- words of the form that name a file have it
 below : (words : List (List ℕ)) (i : ℕ) → NamesFile words i → i < length words
-below words i (rules, script, are, inl e) = omega (arith, three words rules script are, e)
-below words i (rules, script, are, inr e) = omega (arith, three words rules script are, e)
-
-reached : (held : Option Files) (words : List (List ℕ)) (i : ℕ) → ReachesFile held words i → i < length words
-reached held words i (rules, script, are, inl e) = omega (arith, three words rules script are, e)
-reached held words i (rules, script, are, inr e) = omega (arith, three words rules script are, e.0)
+below words i (rules, scripts, are, some, there) = omega (arith, ap length are.are, there)
 
 -- a status that names a word names one that is there
 pub named_word : (held : Option Files) (words : List (List ℕ)) (counts : Counts) (status : Status) → IsCaused held words counts status → NamesWord (length words) status
@@ -120,19 +179,20 @@ named_word held words counts Done h = tt
 named_word held words counts BadWords h = tt
 named_word held words counts (NoFile i) h = below words i h.0
 named_word held words counts (TooLong i) h = below words i h.0
-named_word held words counts (ReadFailed i) h = reached held words i h.1
+named_word held words counts (ReadFailed i) h = below words i h.1.0
+named_word held words counts (RulesRefused f) h = tt
+named_word held words counts (ScriptRefused k f) h = tt
 named_word held words counts WriteFailed h = tt
 named_word held words counts OutOfMemory h = tt
 named_word held words counts (NotBuilt i) h = below words i h.0
 
 -- where no fault is counted, the status is that of the outcome
-module _ (reading : OneReading) (again : OneGoal) where
+module _ (once : OneFault) (apart : ReadOrFault) where
   tells_inputs : (files : Files) (words : List (List ℕ)) (status : Status) → HasInputs files words → status ≡ Done → TellsOutcome files words status
-  tells_inputs files words status h e = λ outcome leads.
-      inl (e ∙ ap status_of (one_outcome reading again files words (inputs h.0 h.1 h.2) outcome h.3 leads))
+  tells_inputs files words status h e = λ outcome leads. inl (e ∙ ap status_of (one_outcome once apart files words (inputs h.0 h.1 h.2) outcome h.3 leads))
 
   tells_refusal : (files : Files) (words : List (List ℕ)) (status : Status) → Leads files words (refused status) → TellsOutcome files words status
-  tells_refusal files words status h = λ outcome leads. inl (ap status_of (one_outcome reading again files words (refused status) outcome h leads))
+  tells_refusal files words status h = λ outcome leads. inl (ap status_of (one_outcome once apart files words (refused status) outcome h leads))
 
   pub tells : (held : Option Files) (words : List (List ℕ)) (counts : Counts) (status : Status) → IsQuiet counts → IsCaused held words counts status
       → IfSome held (λ files. TellsOutcome files words status)
@@ -142,6 +202,8 @@ module _ (reading : OneReading) (again : OneGoal) where
   tells (Some files) words counts (NoFile i) quiet h = tells_refusal files words (NoFile i) h.1
   tells (Some files) words counts (TooLong i) quiet h = tells_refusal files words (TooLong i) h.1
   tells (Some files) words counts (ReadFailed i) quiet h = absurd (quiet.no_read_fault h.0)
+  tells (Some files) words counts (RulesRefused f) quiet h = tells_refusal files words (RulesRefused f) h.1
+  tells (Some files) words counts (ScriptRefused k f) quiet h = tells_refusal files words (ScriptRefused k f) h.1.1
   tells (Some files) words counts WriteFailed quiet h = absurd (quiet.no_write_fault h.0)
   tells (Some files) words counts OutOfMemory quiet h = λ outcome leads. inr refl
   tells (Some files) words counts (NotBuilt i) quiet h = tells_refusal files words (NotBuilt i) h.1

@@ -1,14 +1,11 @@
 -- Why a run ended as it did.
-use Rattle.std.specs.Prelude.{◌≡◌, ◌⊎◌, ℕ, List, Option, IfSome}
-use Rattle.ml_term.specs.Tree.{Tree}
-use Rattle.ml_term.specs.declared.declaration.Decl.{Decl}
+use Rattle.std.specs.Prelude.{◌≡◌, ◌⊎◌, ◌≤◌, ◌+◌, ℕ, List, Option, IfSome, take}
 use Rattle.ml_outside.specs.Held.{Files}
 use Rattle.ml_outside.specs.Causes.{Rose}
-use Rattle.ml_run.specs.Words.{AreWords, AreBad, NamesFile}
-use Rattle.ml_run.specs.Texts.{HoldsRules}
+use Rattle.ml_run.specs.Words.{AreBad, NamesFile}
 use Rattle.ml_run.specs.Outcomes.{Outcome, refused, Leads, HasInputs, status_of}
 use Rattle.ml_run.specs.declared.status.Status.{Status}
-use Rattle.ml_run.specs.declared.status.Status.TheVariants.{Done, BadWords, NoFile, TooLong, ReadFailed, WriteFailed, OutOfMemory, NotBuilt}
+use Rattle.ml_run.specs.declared.status.Status.TheVariants.{Done, BadWords, NoFile, TooLong, ReadFailed, RulesRefused, ScriptRefused, WriteFailed, OutOfMemory, NotBuilt}
 
 -- the counts of faults of a shelf and of a sink, before a call and after it
 pub record Counts : Type 0 where
@@ -17,15 +14,13 @@ pub record Counts : Type 0 where
   pub writes : ℕ
   pub writes_now : ℕ
 
--- a word names a file whose text was refused in this way; where the shelf tells, this is the first refusal
+-- a word names a file that was refused in this way; where the shelf tells, this is the first refusal
 abbrev pub RefusesFile : Option Files → List (List ℕ) → ℕ → Status → Type 0
 RefusesFile held words i status = NamesFile words i × IfSome held (λ files. Leads files words (refused status))
 
--- a word names the rules, or the script where the rules were read
+-- a word names a file; where the shelf tells, no file before it was refused: it is that of the rules, or the words before it lead to inputs
 abbrev pub ReachesFile : Option Files → List (List ℕ) → ℕ → Type 0
-ReachesFile held words i =
-    (rules : List ℕ) × (script : List ℕ) × AreWords words rules script
-    × ((i ≡ 1) ⊎ ((i ≡ 2) × IfSome held (λ files. (d : Decl) × (facts : List Tree) × HoldsRules files rules d facts)))
+ReachesFile held words i = NamesFile words i × IfSome held (λ files. (i ≡ 1) ⊎ HasInputs files (take i words))
 
 -- when each status comes; for want of memory nothing is said
 abbrev pub IsCaused : Option Files → List (List ℕ) → Counts → Status → Type 0
@@ -34,6 +29,8 @@ IsCaused held words counts BadWords = AreBad words
 IsCaused held words counts (NoFile i) = RefusesFile held words i (NoFile i)
 IsCaused held words counts (TooLong i) = RefusesFile held words i (TooLong i)
 IsCaused held words counts (ReadFailed i) = Rose counts.reads counts.reads_now × ReachesFile held words i
+IsCaused held words counts (RulesRefused f) = RefusesFile held words 1 (RulesRefused f)
+IsCaused held words counts (ScriptRefused k f) = (1 ≤ k) × RefusesFile held words (1 + k) (ScriptRefused k f)
 IsCaused held words counts WriteFailed = Rose counts.writes counts.writes_now × IfSome held (λ files. HasInputs files words)
 IsCaused held words counts OutOfMemory = Unit {0}
 IsCaused held words counts (NotBuilt i) = RefusesFile held words i (NotBuilt i)

@@ -1,44 +1,39 @@
 -- What a run prints.
-use Rattle.std.specs.Prelude.{◌≡◌, ℕ, Bool, List, [], ◌∷◌, Option, IfSome}
+use Rattle.std.specs.Prelude.{◌≡◌, ◌⊎◌, ℕ, Bool, List, map, length, Option, IfSome}
 use Rattle.ml_outside.specs.Held.{Files}
 use Rattle.ml_outside.specs.Written.{AppendedFront}
-use Rattle.ml_search.specs.History.{history}
-use Rattle.ml_search.specs.Printed.{printed}
 use Rattle.ml_term.specs.Tree.{Tree}
-use Rattle.ml_term.specs.declared.declaration.Decl.{Decl}
-use Rattle.ml_search.specs.Program.{Goal}
-use Rattle.ml_run.specs.Texts.{HoldsRules, HoldsScript}
-use Rattle.ml_run.specs.Words.{AreWords}
-use Rattle.ml_run.specs.Inputs.{program_of, lists_of, script_of}
+use Rattle.ml_term.specs.Keys.{numbers_from}
+use Rattle.ml_search.specs.History.{history}
+use Rattle.ml_search.specs.Loading.{first_db}
+use Rattle.ml_search.specs.Printed.{printed}
+use Rattle.ml_search.specs.Program.{Program, Script}
+use Rattle.ml_run.specs.Outcomes.{inputs, Leads}
 use Rattle.ml_run.specs.declared.status.Status.{Status}
-use Rattle.ml_run.specs.declared.status.Status.TheVariants.{Done, WriteFailed}
+use Rattle.ml_run.specs.declared.status.Status.TheVariants.{Done, WriteFailed, OutOfMemory}
 
--- The printed history of the session of a script over the facts of rules, under the names of two files; `happened` is said of its bytes. The
--- session may have been entered as out of memory.
-pub record Printed (files : Files) (rules script : List ℕ) (happened : List ℕ → Type 0) : Type 0 where
-  pub decl : Decl
-  pub facts : List Tree
-  pub rules_read : HoldsRules files rules decl facts
-  pub goal : Goal
-  pub script_read : HoldsScript files script decl goal
-  pub out_of_memory : Bool
-  pub happened_to : happened (printed (history (program_of decl) (lists_of decl facts) (script_of goal ∷ []) ((1, out_of_memory) ∷ [])).0)
+-- The printed history of the sessions of scripts over initial items, in order of number from 1; `happened` is said of its bytes. Each session may have been
+-- entered as out of memory, which the order says.
+pub record Printed (program : Program) (items : List (ℕ × Tree)) (scripts : List Script) (happened : List ℕ → Type 0) : Type 0 where
+  pub order : List (ℕ × Bool)
+  pub numbers : map (λ o. o.0) order ≡ numbers_from 1 (length scripts)
+  pub happened_to : happened (printed (history program (first_db program.decls items) scripts order).0)
 
--- the same of the files that the words name
+-- the same of the inputs to which the words lead
 pub record Prints (files : Files) (words : List (List ℕ)) (happened : List ℕ → Type 0) : Type 0 where
-  pub rules : List ℕ
-  pub script : List ℕ
-  pub are : AreWords words rules script
-  pub session : Printed files rules script happened
+  pub program : Program
+  pub items : List (ℕ × Tree)
+  pub scripts : List Script
+  pub lead : Leads files words (inputs program items scripts)
+  pub sessions : Printed program items scripts happened
 
--- the statuses after which nothing was written
-abbrev pub IsSilent : Status → Type 0
-IsSilent Done = ⊥
-IsSilent WriteFailed = ⊥
-IsSilent status = Unit {0}
+-- a beginning of such a print was appended
+abbrev pub BeginsPrint : Option Files → List (List ℕ) → Option (List ℕ) → Option (List ℕ) → Type 0
+BeginsPrint held words before after = IfSome held (λ files. Prints files words (AppendedFront before after))
 
--- what was appended is a beginning of the print, by the status: of none but the whole print and a failed write anything was appended
+-- What was appended is a beginning of the print, by the status: after a refusal it is nothing, and where memory was refused it may be nothing.
 abbrev pub IsBeginning : Option Files → List (List ℕ) → Option (List ℕ) → Option (List ℕ) → Status → Type 0
-IsBeginning held words before after Done = IfSome held (λ files. Prints files words (AppendedFront before after))
-IsBeginning held words before after WriteFailed = IfSome held (λ files. Prints files words (AppendedFront before after))
+IsBeginning held words before after Done = BeginsPrint held words before after
+IsBeginning held words before after WriteFailed = BeginsPrint held words before after
+IsBeginning held words before after OutOfMemory = (after ≡ before) ⊎ BeginsPrint held words before after
 IsBeginning held words before after status = after ≡ before

@@ -1,18 +1,18 @@
 //! Runs sessions over what a shelf holds, and prints what they did.
+//!
+//! It stands on ml_reader, which reads rules and scripts, on ml_relation, which runs a session, and on ml_outside, where files are fetched and output
+//! goes. `specs/Outcomes.antt` says to which inputs or to which first refusal the words lead, `specs/Prints.antt` what is printed; `serial` carries the headline.
 #![tactic(auto)]
 
-mod answer;
-mod block;
-mod form;
-mod goal;
-mod key_order;
+mod entries;
+mod fault;
+mod inputs;
 mod limits;
 mod line;
 mod load;
-mod matching;
+mod play;
 mod run;
 mod status;
-mod tuple;
 mod words;
 
 pub use line::line_of;

@@ -1,9 +1,15 @@
-// The line that tells of a fault.
-ghost use Rattle.std.specs.Prelude.{◌≡◌, ◌++◌, ◌<◌, length, IfOk, OnOk, codes};
+// The line that tells of a status.
+ghost use Rattle.std.specs.Prelude.{◌≡◌, ◌++◌, ◌<◌, codes, length, IfOk};
+ghost use Rattle.std.specs.String.{string_bytes};
+ghost use Rattle.ml_term.specs.Decimal.{decimal_text};
+ghost use Rattle.ml_run.specs.Faults.{fault_text};
 ghost use Rattle.ml_run.specs.Words.{texts};
 ghost use Rattle.ml_run.specs.Status.{NamesWord, fault_line, told};
 
+use crate::fault::fault_text;
 use crate::status::Status;
+use ml_reader::ReadFault;
+use ml_term::decimal_laws::std_writes_decimal_texts;
 use std::alloc::{AllocError, Global};
 
 /// The line of a status with its line feed, and no bytes for `Done`. A word is told as it stands.
@@ -17,13 +23,33 @@ pub fn line_of(alloc: Global, status: &Status, words: &[&str]) -> Result<Vec<u8>
         Status::NoFile(word) => told(alloc, "no file ", words[word]),
         Status::TooLong(word) => told(alloc, "too long ", words[word]),
         Status::ReadFailed(word) => told(alloc, "cannot read ", words[word]),
+        Status::RulesRefused(fault) => rules_line(alloc, &fault),
+        Status::ScriptRefused(number, fault) => script_line(alloc, number, &fault),
         Status::WriteFailed => told(alloc, "cannot write", ""),
         Status::OutOfMemory => told(alloc, "out of memory", ""),
         Status::NotBuilt(word) => told(alloc, "not built ", words[word]),
     }
 }
 
-// A fault and the name that it concerns, as a line.
+// The line of rules that have a fault.
+fn rules_line(alloc: Global, fault: &ReadFault) -> Result<Vec<u8>, AllocError>
+    ensures { IfOk result (λ bytes. bytes.items ≡ told (codes "rules ") (fault_text fault.now)) }
+{
+    let text = fault_text(alloc, fault)?;
+    told(alloc, "rules ", text.as_str())
+}
+
+// The line of a script that has a fault.
+fn script_line(alloc: Global, number: u32, fault: &ReadFault) -> Result<Vec<u8>, AllocError>
+    ensures { IfOk result (λ bytes. bytes.items ≡ told (codes "script ") (decimal_text number ++ codes " " ++ fault_text fault.now)) }
+{
+    std_writes_decimal_texts();
+    let text = fault_text(alloc, fault)?;
+    let numbered = format!(in alloc; "{number} {text}")?;
+    told(alloc, "script ", numbered.as_str())
+}
+
+// A fault and what it concerns, as a line.
 fn told(alloc: Global, fault: &str, name: &str) -> Result<Vec<u8>, AllocError>
     ensures { IfOk result (λ bytes. bytes.items ≡ told fault.now name.now) }
 {

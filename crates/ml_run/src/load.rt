@@ -1,58 +1,124 @@
 // Fetches and reads the texts that the words name.
-ghost use Rattle.std.specs.Prelude.{◌≡◌, ◌≤◌, IsTrue, IfOk, IfErr, IfSome};
-ghost use Rattle.ml_term.specs.Seen.{seen};
-ghost use Rattle.ml_run.specs.GoalSeen.{goal_seen};
-ghost use Rattle.ml_run.specs.KeyOrder.{trees};
-ghost use Rattle.ml_run.specs.Plain.{is_flat_call};
-ghost use Rattle.ml_run.specs.Relation.{IsRelation};
-ghost use Rattle.ml_run.specs.form.Grammar.{is_arity};
-ghost use Rattle.ml_run.specs.Texts.{text, Holds, HoldsRules, HoldsScript};
-ghost use Rattle.ml_run.specs.Causes.{FetchRefused, RulesRefused, ScriptRefused};
+ghost use Rattle.std.specs.Prelude.{◌≡◌, ◌≤◌, ◌+◌, false, IsTrue, IfOk, IfErr, IfSome, Ok, Err, length};
+ghost use Rattle.std.specs.List.{list_all};
+ghost use Rattle.ml_search.specs.ProgramSeen.{program_seen, script_seen};
+ghost use Rattle.ml_relation.specs.Calls.{is_of_relations};
+ghost use Rattle.ml_run.specs.Words.{texts, most_scripts};
+ghost use Rattle.ml_run.specs.Texts.{HoldsText, text_limit};
+ghost use Rattle.ml_run.specs.Outcomes.{inputs, is_built, RulesCome, ScriptComes, ScriptsCome, FilesLead};
+ghost use Rattle.ml_run.specs.Causes.{FetchStops, Stops, ScriptsStop, FilesStop};
+ghost use Rattle.ml_run.specs.Seen.{rules_seen, scripts_seen};
 
-use crate::form::{ReadStop, Rules, read_rules, read_script};
-use crate::goal::Goal;
+use crate::inputs::Inputs;
 use crate::limits::MAX_TEXT;
 use crate::status::Status;
 use ml_outside::{FetchStop, Shelf};
-use ml_term::Decl;
+use ml_reader::{ReadStop, Rules, read_rules, read_script};
+use ml_relation::{are_relations, is_of_relations};
+use ml_search::{Program, Script};
 use std::alloc::Global;
 
-/// The rules under a name, which word 1 gives.
-pub fn load_rules<S: Shelf>(alloc: Global, shelf: &mut S, file: &str) -> Result<Rules, Status>
-    ensures ok { IfOk result (λ r. IfSome (S.held shelf.old) (λ files. HoldsRules files file.now r.decl (trees r.facts.items))) }
-    ensures relation { IfOk result (λ r. IsRelation r.decl r.facts.items) }
-    ensures err { IfErr result (λ status. RulesRefused (S.held shelf.old) file.now (S.faults shelf.old) (S.faults shelf.new) status) }
+/// The rules and the scripts under these names: word 1 names the rules, and word 1 + k script k.
+pub fn load<S: Shelf>(
+    alloc: Global,
+    shelf: &mut S,
+    rules_file: &str,
+    script_files: &[&str],
+) -> Result<Inputs, Status>
+    requires { length script_files.now ≤ most_scripts }
+    ensures ok { IfOk result (λ i. IfSome (S.held shelf.old) (λ files. FilesLead files rules_file.now (texts script_files.now) (inputs (rules_seen i.rules).0 (rules_seen i.rules).1 (scripts_seen i.scripts.items)))) }
+    ensures err { IfErr result (λ status. FilesStop (S.held shelf.old) rules_file.now (texts script_files.now) (S.faults shelf.old) (S.faults shelf.new) status) }
+    ensures held { S.held shelf.new ≡ S.held shelf.old }
+{
+    let rules = load_rules(alloc, shelf, rules_file)?;
+    let scripts = load_scripts(alloc, shelf, script_files, &rules.program)?;
+    Ok(Inputs { rules, scripts })
+}
+
+// The rules under a name, which word 1 gives.
+fn load_rules<S: Shelf>(alloc: Global, shelf: &mut S, file: &str) -> Result<Rules, Status>
+    ensures ok { IfOk result (λ r. IfSome (S.held shelf.old) (λ files. RulesCome files file.now (Ok (rules_seen r)))) }
+    ensures built { IfOk result (λ r. IsTrue (is_built (program_seen r.program))) }
+    ensures err { IfErr result (λ status. Stops (S.held shelf.old) (λ files status. RulesCome files file.now (Err status)) 1 (S.faults shelf.old) (S.faults shelf.new) status) }
     ensures held { S.held shelf.new ≡ S.held shelf.old }
     ensures later { S.faults shelf.old ≤ S.faults shelf.new }
 {
     let bytes = fetch_text(alloc, shelf, file, 1)?;
     match read_rules(alloc, &bytes) {
-        Ok(rules) => Ok(rules),
-        Err(ReadStop::NotOfForm) => Err(Status::NotBuilt(1)),
+        Ok(rules) => if_built(rules),
+        Err(ReadStop::Fault(fault)) => Err(Status::RulesRefused(fault)),
         Err(ReadStop::OutOfMemory) => Err(Status::OutOfMemory),
     }
 }
 
-/// The goal under a name, which word 2 gives: a call of the declared predicate.
-pub fn load_script<S: Shelf>(
+// Rules that are run so far.
+fn if_built(rules: Rules) -> Result<Rules, Status>
+    ensures ok { IfOk result (λ r. (r ≡ rules) × IsTrue (is_built (program_seen r.program))) }
+    ensures err { IfErr result (λ status. (status ≡ Status.NotBuilt 1) × (is_built (program_seen rules.program) ≡ false)) }
+{
+    if is_built(&rules.program) {
+        return Ok(rules);
+    }
+    Err(Status::NotBuilt(1))
+}
+
+// Whether a program declares relations alone and has no clauses.
+fn is_built(program: &Program) -> bool
+    ensures { result ≡ is_built (program_seen program.now) }
+{
+    are_relations(&program.decls) && program.clauses.as_slice().is_empty()
+}
+
+// The scripts under these names.
+fn load_scripts<S: Shelf>(
     alloc: Global,
     shelf: &mut S,
-    file: &str,
-    decl: &Decl,
-) -> Result<Goal, Status>
-    requires { IsTrue (is_arity decl.now.pred.arity) }
-    ensures ok { IfOk result (λ g. IfSome (S.held shelf.old) (λ files. HoldsScript files file.now decl.now (goal_seen g))) }
-    ensures flat { IfOk result (λ g. IsTrue (is_flat_call (seen g.term))) }
-    ensures err { IfErr result (λ status. ScriptRefused (S.held shelf.old) file.now decl.now (S.faults shelf.old) (S.faults shelf.new) status) }
+    names: &[&str],
+    program: &Program,
+) -> Result<Vec<Script>, Status>
+    requires { length names.now ≤ most_scripts }
+    ensures ok { IfOk result (λ ss. IfSome (S.held shelf.old) (λ files. ScriptsCome files (program_seen program.now) 1 (texts names.now) (Ok (scripts_seen ss.items)))) }
+    ensures sessions { IfOk result (λ ss. IsTrue (list_all (is_of_relations program.now.decls) (scripts_seen ss.items))) }
+    ensures few { IfOk result (λ ss. length ss.items ≤ most_scripts) }
+    ensures err { IfErr result (λ status. ScriptsStop (S.held shelf.old) (program_seen program.now) (texts names.now) (S.faults shelf.old) (S.faults shelf.new) status) }
     ensures held { S.held shelf.new ≡ S.held shelf.old }
     ensures later { S.faults shelf.old ≤ S.faults shelf.new }
 {
-    let bytes = fetch_text(alloc, shelf, file, 2)?;
-    match read_script(alloc, decl, &bytes) {
-        Ok(goal) => Ok(goal),
-        Err(ReadStop::NotOfForm) => Err(Status::NotBuilt(2)),
-        Err(ReadStop::OutOfMemory) => Err(Status::OutOfMemory),
+    let mut scripts = Vec::new(alloc);
+    for i in 0..names.len() {
+        let script = load_script(alloc, shelf, names[i], i as u32 + 1, program)?;
+        scripts.push(script)?;
     }
+    Ok(scripts)
+}
+
+// Script k under a name, which word 1 + k gives.
+fn load_script<S: Shelf>(
+    alloc: Global,
+    shelf: &mut S,
+    name: &str,
+    number: u32,
+    program: &Program,
+) -> Result<Script, Status>
+    requires some { 1 ≤ number }
+    requires few { number ≤ most_scripts }
+    ensures ok { IfOk result (λ s. IfSome (S.held shelf.old) (λ files. ScriptComes files (program_seen program.now) number name.now (Ok (script_seen s)))) }
+    ensures session { IfOk result (λ s. IsTrue (is_of_relations program.now.decls (script_seen s))) }
+    ensures err { IfErr result (λ status. Stops (S.held shelf.old) (λ files status. ScriptComes files (program_seen program.now) number name.now (Err status)) (1 + number) (S.faults shelf.old) (S.faults shelf.new) status) }
+    ensures held { S.held shelf.new ≡ S.held shelf.old }
+    ensures later { S.faults shelf.old ≤ S.faults shelf.new }
+{
+    let word = 1 + number as usize;
+    let bytes = fetch_text(alloc, shelf, name, word)?;
+    let script = match read_script(alloc, &bytes) {
+        Ok(script) => script,
+        Err(ReadStop::Fault(fault)) => return Err(Status::ScriptRefused(number, fault)),
+        Err(ReadStop::OutOfMemory) => return Err(Status::OutOfMemory),
+    };
+    if !is_of_relations(&program.decls, &script) {
+        return Err(Status::NotBuilt(word));
+    }
+    Ok(script)
 }
 
 // The text under a name, which a word gives.
@@ -62,8 +128,9 @@ fn fetch_text<S: Shelf>(
     name: &str,
     word: usize,
 ) -> Result<Vec<u8>, Status>
-    ensures ok { IfOk result (λ bytes. IfSome (S.held shelf.old) (λ files. Holds files name.now (text bytes.items))) }
-    ensures err { IfErr result (λ status. FetchRefused (S.held shelf.old) name.now word (S.faults shelf.old) (S.faults shelf.new) status) }
+    ensures ok { IfOk result (λ bytes. IfSome (S.held shelf.old) (λ files. HoldsText files name.now bytes.items)) }
+    ensures limit { IfOk result (λ bytes. length bytes.items ≤ text_limit) }
+    ensures err { IfErr result (λ status. FetchStops (S.held shelf.old) name.now word (S.faults shelf.old) (S.faults shelf.new) status) }
     ensures held { S.held shelf.new ≡ S.held shelf.old }
     ensures later { S.faults shelf.old ≤ S.faults shelf.new }
 {

@@ -1,4 +1,9 @@
 // How a run ended.
+ghost use Rattle.std.specs.Prelude.{◌≡◌};
+ghost use Rattle.ml_run.specs.declared.status.Status.TheVariants as run_status;
+
+use ml_reader::ReadFault;
+use std::alloc::{AllocError, AllocFailed};
 
 /// How a run ended. A word that is named is named by its place in the words, from 0.
 #[derive(Clone, Copy, Debug, PartialEq, Eq)]
@@ -13,16 +18,19 @@ pub enum Status {
     TooLong(usize),
     /// The shelf failed at the fetch of this word, and counted it.
     ReadFailed(usize),
+    /// The rules have this first fault.
+    RulesRefused(ReadFault),
+    /// The script of this number, from 1, has this first fault.
+    ScriptRefused(u32, ReadFault),
     /// The output failed, and the sink counted it.
     WriteFailed,
     /// Memory was refused.
     OutOfMemory,
-    /// What is held under the name that this word gives isn't of the form that is read.
+    /// What is held under the name that this word gives isn't run yet.
     NotBuilt(usize),
 }
 
 impl Status {
-    ghost use Rattle.std.specs.Prelude.{◌≡◌};
     ghost use Rattle.ml_run.specs.Status.{number_of};
 
     /// The number that the program ends with. It takes no memory.
@@ -35,9 +43,27 @@ impl Status {
             Status::NoFile(_) => 3,
             Status::TooLong(_) => 4,
             Status::ReadFailed(_) => 5,
+            Status::RulesRefused(_) => 6,
+            Status::ScriptRefused(_, _) => 7,
             Status::WriteFailed => 9,
             Status::OutOfMemory => 11,
             Status::NotBuilt(_) => 13,
         }
+    }
+}
+
+impl From<AllocError> for Status {
+    ghost from_gives = { λ _ s. s ≡ run_status.OutOfMemory };
+
+    fn from(_: AllocError) -> Self {
+        Status::OutOfMemory
+    }
+}
+
+impl<T: Drop> From<AllocFailed<T>> for Status {
+    ghost from_gives = { λ _ s. s ≡ run_status.OutOfMemory };
+
+    fn from(_: AllocFailed<T>) -> Self {
+        Status::OutOfMemory
     }
 }

@@ -1,28 +1,30 @@
 // The words of the command.
-ghost use Rattle.std.specs.Prelude.{◌≡◌, List, ℕ, codes, IsTrue, IfSome, IfNone};
-ghost use Rattle.ml_run.specs.Words.{texts, IsName, AreWords, AreBad};
+ghost use Rattle.std.specs.Prelude.{◌≡◌, codes, IsTrue, IfSome, IfNone};
+ghost use Rattle.std.specs.List.{list_all};
+ghost use Rattle.ml_run.specs.Words.{texts, is_name, AreWords, AreBad};
 
-/// The names of the rules and of the script, if the words are `serial RULES SCRIPT`.
-pub fn names_of<'a>(words: &[&'a str]) -> Option<(&'a str, &'a str)>
-    ensures some { IfSome result (λ names. AreWords (texts words.now) names.0.now names.1.now) }
+use crate::limits::MAX_SCRIPTS;
+
+/// The names of the rules and of the scripts, if the words are `serial RULES SCRIPT*`.
+pub fn names_of<'w, 'a>(words: &'w [&'a str]) -> Option<(&'a str, &'w [&'a str])>
+    ensures some { IfSome result (λ names. AreWords (texts words.now) names.0.now (texts names.1.now)) }
     ensures none { IfNone result (AreBad (texts words.now)) }
 {
     let (command, rest) = words.split_first()?;
-    let (rules, rest) = rest.split_first()?;
-    let (script, rest) = rest.split_first()?;
-    if !rest.is_empty() {
-        return None;
-    }
+    let (rules, scripts) = rest.split_first()?;
     if !is_serial(command) {
         return None;
     }
     if !is_name(rules) {
         return None;
     }
-    if !is_name(script) {
+    if scripts.len() > MAX_SCRIPTS {
         return None;
     }
-    Some((*rules, *script))
+    if !are_names(scripts) {
+        return None;
+    }
+    Some((*rules, scripts))
 }
 
 fn is_serial(word: &str) -> bool
@@ -34,11 +36,20 @@ fn is_serial(word: &str) -> bool
 
 // Whether a word may be a name: it isn't empty and doesn't begin with `-`.
 fn is_name(word: &str) -> bool
-    ensures yes { IsTrue result → IsName word.now }
-    ensures no { IsName word.now → IsTrue result }
+    ensures { result ≡ is_name word.now }
 {
     match word.as_bytes() {
         [] => false,
         [b, ..] => *b != b'-',
+    }
+}
+
+// Whether all words may be names.
+fn are_names(words: &[&str]) -> bool
+    ensures { result ≡ list_all is_name (texts words.now) }
+{
+    match words.split_first() {
+        None => true,
+        Some((word, rest)) => is_name(word) && are_names(rest),
     }
 }

@@ -1,30 +1,34 @@
 use Rattle.std.proofs.lemmas.Option.{IfSome_then}
 use Rattle.ml_run.specs.Words.{texts}
 use Rattle.ml_run.specs.declared.status.Status.TheVariants.{Done}
-use Rattle.ml_run.proofs.Refusals.{both_read, caused, tells}
-use Rattle.ml_run.proofs.Histories.{printed_front}
+use Rattle.ml_run.proofs.Refusals.{caused_by_files, tells}
+use Rattle.ml_run.proofs.Playing.{prints, plays_front, has_inputs, caused_by_output}
 use Rattle.ml_run.proofs.run.serial.Goals as goal
 
-pub returns-in-Ok-clause-beginning : goal.returns-in-Ok-clause-beginning
-returns-in-Ok-clause-beginning g c = IfSome_then (g.S.Shelf.held c.args.shelf.now) c.in-Ok.ensures.ok (λ files p. record {
-  rules = c.in-Some.rules.now;
-  script = c.in-Some.script.now;
-  are = c.in-Some.ensures.some;
-  session = printed_front files _ _ _ _ p;
-})
-
-pub returns-in-Ok-clause-cause : goal.returns-in-Ok-clause-cause
-returns-in-Ok-clause-cause g c = IfSome_then (g.S.Shelf.held c.args.shelf.now) c.in-Ok.ensures.ok (λ files p.
-    (p.decl, p.facts, p.goal, both_read _ _ _ c.in-Some.ensures.some p.decl p.facts p.goal files p.rules_read p.script_read))
-
-pub returns-in-Ok-clause-complete : goal.returns-in-Ok-clause-complete
-returns-in-Ok-clause-complete g c = λ quiet.
-    tells c.one_reading.ensures c.one_goal.ensures (g.S.Shelf.held c.args.shelf.now) (texts c.args.words.now) _ Done quiet (returns-in-Ok-clause-cause g c)
-
 pub returns-in-Err-clause-cause : goal.returns-in-Err-clause-cause
-returns-in-Err-clause-cause g c = caused _ _ _ c.in-Some.ensures.some (g.S.Shelf.held c.args.shelf.now) _ c.in-Err.status c.in-Err.ensures.err
+returns-in-Err-clause-cause g c = caused_by_files _ _ _ c.in-Some.ensures.some (g.S.Shelf.held c.args.shelf.now) _ c.in-Err.status c.in-Err.ensures.err
 
 pub returns-in-Err-clause-complete : goal.returns-in-Err-clause-complete
 returns-in-Err-clause-complete g c = λ quiet.
-    tells c.one_reading.ensures c.one_goal.ensures (g.S.Shelf.held c.args.shelf.now) (texts c.args.words.now) _ c.in-Err.status quiet
-    (caused _ _ _ c.in-Some.ensures.some (g.S.Shelf.held c.args.shelf.now) _ c.in-Err.status c.in-Err.ensures.err)
+    tells c.a_text_has_one_first_fault.ensures c.a_text_that_is_read_has_no_fault.ensures (g.S.Shelf.held c.args.shelf.now) (texts c.args.words.now) _ c.in-Err.status quiet (returns-in-Err-clause-cause g c)
+
+pub returns-in-Ok-play-clause-beginning : goal.returns-in-Ok-play-clause-beginning
+returns-in-Ok-play-clause-beginning g c = IfSome_then (g.S.Shelf.held c.args.shelf.now) c.in-Ok.ensures.ok (λ files l.
+    prints _ _ _ c.in-Some.ensures.some c.in-Ok.inputs files _ l (plays_front _ _ _ c.in-Some.ensures.some c.in-Ok.inputs _ _ c.in-Ok-play.ensures.ok))
+
+pub returns-in-Ok-play-clause-cause : goal.returns-in-Ok-play-clause-cause
+returns-in-Ok-play-clause-cause g c =
+    has_inputs _ _ _ c.in-Some.ensures.some c.in-Ok.inputs (g.S.Shelf.held c.args.shelf.now) (record {
+      reads = g.S.Shelf.faults c.args.shelf.now;
+      reads_now = g.S.Shelf.faults c.load.new.shelf;
+      writes = g.K.Sink.faults c.args.out.now;
+      writes_now = g.K.Sink.faults c.play.new.out;
+    }) c.in-Ok.ensures.ok
+
+pub returns-in-Ok-play-clause-complete : goal.returns-in-Ok-play-clause-complete
+returns-in-Ok-play-clause-complete g c = λ quiet.
+    tells c.a_text_has_one_first_fault.ensures c.a_text_that_is_read_has_no_fault.ensures (g.S.Shelf.held c.args.shelf.now) (texts c.args.words.now) _ Done quiet (returns-in-Ok-play-clause-cause g c)
+
+pub returns-in-Err-play-clause-cause : goal.returns-in-Err-play-clause-cause
+returns-in-Err-play-clause-cause g c =
+    caused_by_output _ _ _ c.in-Some.ensures.some c.in-Ok.inputs (g.S.Shelf.held c.args.shelf.now) _ _ _ c.in-Err-play.status c.in-Ok.ensures.ok c.in-Err-play.ensures.err

@@ -1,0 +1,19 @@
+-- What the sessions of inputs print, and why they don't.
+use Rattle.std.specs.Prelude.{◌≡◌, ◌⊎◌, ℕ, List, Option}
+use Rattle.ml_outside.specs.Causes.{Rose}
+use Rattle.ml_outside.specs.Written.{AppendedFront}
+use Rattle.ml_run.specs.Prints.{Printed}
+use Rattle.ml_run.specs.Seen.{rules_seen, scripts_seen}
+use Rattle.ml_run.specs.declared.inputs.Inputs.{Inputs}
+use Rattle.ml_run.specs.declared.status.Status.{Status}
+use Rattle.ml_run.specs.declared.status.Status.TheVariants.{WriteFailed, OutOfMemory}
+
+-- the printed history of inputs
+abbrev pub Plays : Inputs → (List ℕ → Type 0) → Type 0
+Plays i = Printed (rules_seen i.rules).0 (rules_seen i.rules).1 (scripts_seen i.scripts.items)
+
+-- Why the print wasn't written whole, with the counts of the sink's faults: a beginning of it was appended.
+abbrev pub PlayStops : Inputs → ℕ → ℕ → Option (List ℕ) → Option (List ℕ) → Status → Type 0
+PlayStops i faults faults_now before after WriteFailed = Rose faults faults_now × Plays i (AppendedFront before after)
+PlayStops i faults faults_now before after OutOfMemory = (after ≡ before) ⊎ Plays i (AppendedFront before after)
+PlayStops i faults faults_now before after status = ⊥

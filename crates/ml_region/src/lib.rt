@@ -18,6 +18,8 @@ mod page;
 mod places;
 mod regions;
 mod sorted_dir;
+#[cfg(test)]
+mod tests;
 
 pub use directory::{Directory, Slot};
 pub use item::{Id, Item};

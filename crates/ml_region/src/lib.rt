@@ -12,6 +12,7 @@ mod directory;
 mod item;
 mod kept;
 mod limits;
+mod merge;
 mod moves;
 mod order;
 mod page;

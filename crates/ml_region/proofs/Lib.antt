@@ -13,3 +13,11 @@ pub mod Filtered
 pub mod Cutting
 pub mod Below
 pub mod Changing
+pub mod CutStored
+pub mod Moving
+pub mod CutSteps
+pub mod Merging
+pub mod Pouring
+pub mod MergeSteps
+pub mod RecutSteps
+pub mod OneItem

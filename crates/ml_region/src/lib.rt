@@ -7,15 +7,22 @@
 
 mod change;
 mod compatible;
+mod cut;
 mod directory;
 mod item;
 mod kept;
+pub mod laws;
 mod limits;
+mod merge;
+mod moves;
 mod order;
 mod page;
 mod places;
+mod recut;
 mod regions;
 mod sorted_dir;
+#[cfg(test)]
+mod tests;
 
 pub use directory::{Directory, Slot};
 pub use item::{Id, Item};

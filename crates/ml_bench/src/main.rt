@@ -6,12 +6,16 @@ mod append;
 mod copy;
 mod ground;
 mod lists;
+mod read;
 mod round;
+mod rules;
 mod unify;
 
 use append::append;
 use copy::copy;
 use ground::ground;
+use read::read;
+use rules::rules;
 use std::alloc::{AllocError, Global};
 use std::process::ExitCode;
 use std::{env, io};
@@ -44,12 +48,14 @@ fn done(alloc: Global, work: &str, count: u32) -> Result<Option<bool>, AllocErro
         "unify" => Ok(Some(unify(alloc, count)?)),
         "ground" => Ok(Some(ground(alloc, count)?)),
         "copy" => Ok(Some(copy(alloc, count)?)),
+        "read" => Ok(Some(read(alloc, count)?)),
+        "rules" => Ok(Some(rules(alloc, count)?)),
         _ => Ok(None),
     }
 }
 
 /// Tells what the words may be.
 fn usage(rt: &HostRuntime) -> io::Result<ExitCode> {
-    println!(rt; "ml_bench unify N | ground N | append N | copy N")?;
+    println!(rt; "ml_bench unify N | ground N | append N | copy N | read N | rules N")?;
     Ok(ExitCode::from(2))
 }

@@ -277,3 +277,29 @@ fn relations_may_be_shared_between_threads(rt: HostRuntime) -> Result<(), Fail> 
     shared(&relations);
     Ok(())
 }
+
+/// `p(50000).` and so on down to `p(1).`
+fn falling_rules(alloc: Global) -> Result<String, AllocError> {
+    let mut text = String::from_str(alloc, ":- relation(p/1).\n")?;
+    for n in 0u32..50000 {
+        let number = 50000 - n;
+        let fact = format!(in alloc; "p({number}).\n")?;
+        text.push_str(fact.as_str())?;
+    }
+    Ok(text)
+}
+
+#[test]
+fn many_tuples_in_falling_order_are_put_in_order(rt: HostRuntime) -> Result<(), Fail> {
+    let alloc = rt.alloc();
+    let rules = falling_rules(alloc)?;
+    let script = b":- budget(200000). ?- p(50000). ?- p(X). ?- p(0).";
+    let ran = run(&rt, alloc, rules.as_bytes(), script)?;
+    let bytes = ran.lines.bytes();
+    assert_eq!(rt; end_of(ran.ending), End::Committed);
+    let first: &[u8] = b"goal 1\n  true\n  1 answers\ngoal 2\n  X = 1\n  X = 2\n  X = 3\n";
+    assert!(rt; bytes.starts_with(first));
+    let last: &[u8] = b"  X = 49999\n  X = 50000\n  50000 answers\ngoal 3\n  0 answers\n";
+    assert!(rt; bytes.ends_with(last));
+    Ok(())
+}

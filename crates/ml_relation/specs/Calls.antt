@@ -1,4 +1,4 @@
--- Goals that are calls of declared relations, and scripts of such goals.
+-- Goals that are calls of declared relations, and scripts of such goals. The code looks at one declaration after another.
 use Rattle.std.specs.Prelude.{ℕ, Bool, true, false, ◌&&◌, List, [], unwrap_or, slice_get}
 use Rattle.std.specs.List.{list_all}
 use Rattle.ml_term.specs.Tree.{Tree}

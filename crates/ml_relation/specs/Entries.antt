@@ -1,4 +1,4 @@
--- Entries of sessions that all run over the same lists.
+-- Entries of sessions that all run over the same lists. In a history each runs over what the one before it left.
 use Rattle.std.specs.Prelude.{ℕ, Bool, List}
 use Rattle.ml_search.specs.Program.{Program, Script}
 use Rattle.ml_search.specs.Db.{Db}

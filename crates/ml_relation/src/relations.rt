@@ -37,7 +37,7 @@ impl Relations {
     }
 
     /// The tuples of the declaration at a place, and none where there is no such place.
-    pub fn at(&self, place: usize) -> &[Tuple]
+    pub(crate) fn at(&self, place: usize) -> &[Tuple]
         ensures { trees result.now ≡ terms_at (lists_of self.now) place }
     {
         if place < self.lists.len() {

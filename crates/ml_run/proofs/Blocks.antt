@@ -1,11 +1,12 @@
 -- The blocks of entries over the same lists, one after another, and the print of their history.
-use Rattle.std.proofs.Common.{◌≡◌, refl, sym, ap, ◌∙◌, subst, ◌+◌, zero, suc, ◌<◌, ◌&&◌, ℕ, Bool, true, false, List, [], ◌∷◌, ◌++◌, map, length, get_or, Some, slice_get, option_map, arith}
+use Rattle.std.proofs.Common.{◌≡◌, refl, sym, ap, ◌∙◌, subst, ◌+◌, zero, suc, ◌<◌, ℕ, Bool, true, List, [], ◌∷◌, ◌++◌, map, length, get_or, Some, slice_get, option_map, arith}
 use Rattle.std.proofs.lemmas.List.{map-append, append-nil}
 use Rattle.std.proofs.lemmas.Option.{slice_get-map, slice_get_read}
 use Rattle.std.specs.List.{flat_map, list_all}
 use Rattle.ml_term.specs.Keys.{numbers_from}
 use Rattle.ml_term.specs.Tree.{Tree}
 use Rattle.ml_term.proofs.DefaultKeys.{one_number_more}
+use Rattle.ml_term.proofs.Columns.{and_first, and_second}
 use Rattle.ml_search.specs.Db.{Db, loaded}
 use Rattle.ml_search.specs.History.{Entry, ran, script_of, history}
 use Rattle.ml_search.specs.Loading.{first_lists}
@@ -20,17 +21,6 @@ use Rattle.ml_relation.specs.Entries.{entry_over}
 use Rattle.ml_relation.specs.Running.{IsRun}
 use Rattle.ml_run.specs.Entries.{entry_text, AreBlocks}
 use Rattle.ml_run.specs.Prints.{Printed}
-
-and_first : (a b : Bool) → (a && b) ≡ true → a ≡ true
-and_first true b e = refl
-and_first false b e = e
-
-and_second : (a b : Bool) → (a && b) ≡ true → b ≡ true
-and_second true b e = e
-and_second false b e = cc
-
-pub no_blocks : (p : Program) (db : Db) (scripts : List Script) → AreBlocks p db scripts 0 []
-no_blocks p db scripts = record { order = []; numbers = refl; are = refl }
 
 pub one_block_more : (p : Program) (db : Db) (scripts : List Script) (n number : ℕ) (blocks : List (List ℕ)) (s : Script) (out_of_memory : Bool) (bytes : List ℕ) → AreBlocks p db scripts n blocks
     → number ≡ suc n → slice_get scripts n ≡ Some s → bytes ≡ block (record { number = number; ran = ran p (Some s) out_of_memory db }) → AreBlocks p db scripts (n + 1) (blocks ++ bytes ∷ [])

@@ -1,5 +1,5 @@
 -- From why the output isn't written to why the run ended as it did.
-use Rattle.std.proofs.Common.{◌≡◌, ℕ, List, Option, IfSome, Result, Ok, Err, IfErr, inl, inr}
+use Rattle.std.proofs.Common.{ℕ, List, Option, IfSome, Result, Ok, Err, IfErr, inr}
 use Rattle.std.proofs.lemmas.Option.{IfSome_then}
 use Rattle.ml_outside.specs.Held.{Files}
 use Rattle.ml_outside.specs.Written.{Appended, AppendedFront}
@@ -7,7 +7,7 @@ use Rattle.ml_run.specs.Answers.{Counts, IsCaused}
 use Rattle.ml_run.specs.Causes.{WriteStops}
 use Rattle.ml_run.specs.Outcomes.{inputs, FilesLead}
 use Rattle.ml_run.specs.Playing.{Plays, PlayStops}
-use Rattle.ml_run.specs.Prints.{Prints, IsBeginning}
+use Rattle.ml_run.specs.Prints.{Prints}
 use Rattle.ml_run.specs.Seen.{rules_seen, scripts_seen}
 use Rattle.ml_run.specs.Words.{AreWords}
 use Rattle.ml_run.specs.declared.inputs.Inputs.{Inputs}
@@ -66,29 +66,3 @@ module _ (words : List (List ℕ)) (rules : List ℕ) (scripts : List (List ℕ)
   caused_by_output held counts before after WriteFailed l h = (h.0, has_inputs held counts l)
   caused_by_output held counts before after OutOfMemory l h = tt
   caused_by_output held counts before after (NotBuilt n) l h = absurd h
-
-  pub begins : (held : Option Files) (faults faults_now : ℕ) (before after : Option (List ℕ)) (status : Status) → IfSome held (λ files. LeadsTo files rules scripts i)
-      → PlayStops i faults faults_now before after status → IsBeginning held words before after status
-  begins held faults faults_now before after Done l h = absurd h
-  begins held faults faults_now before after BadWords l h = absurd h
-  begins held faults faults_now before after (NoFile n) l h = absurd h
-  begins held faults faults_now before after (TooLong n) l h = absurd h
-  begins held faults faults_now before after (ReadFailed n) l h = absurd h
-  begins held faults faults_now before after (RulesRefused f) l h = absurd h
-  begins held faults faults_now before after (ScriptRefused k f) l h = absurd h
-  begins held faults faults_now before after WriteFailed l h = IfSome_then held l (λ files l. prints files _ l h.1)
-  begins held faults faults_now before after OutOfMemory l (inl e) = inl e
-  begins held faults faults_now before after OutOfMemory l (inr p) = inr (IfSome_then held l (λ files l. prints files _ l p))
-  begins held faults faults_now before after (NotBuilt n) l h = absurd h
-
-pub not_done_writing : (i : Inputs) (faults faults_now : ℕ) (before after : Option (List ℕ)) (status : Status) → PlayStops i faults faults_now before after status → status ≡ Done → ⊥
-not_done_writing i faults faults_now before after Done h e = h
-not_done_writing i faults faults_now before after BadWords h e = h
-not_done_writing i faults faults_now before after (NoFile n) h e = h
-not_done_writing i faults faults_now before after (TooLong n) h e = h
-not_done_writing i faults faults_now before after (ReadFailed n) h e = h
-not_done_writing i faults faults_now before after (RulesRefused f) h e = h
-not_done_writing i faults faults_now before after (ScriptRefused k f) h e = h
-not_done_writing i faults faults_now before after WriteFailed h e = cc e
-not_done_writing i faults faults_now before after OutOfMemory h e = cc e
-not_done_writing i faults faults_now before after (NotBuilt n) h e = h

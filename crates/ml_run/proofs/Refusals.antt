@@ -1,20 +1,18 @@
 -- From why a step gave no result to why the run ended as it did.
-use Rattle.std.proofs.Common.{◌≡◌, refl, sym, ap, ◌∙◌, subst, ◌<◌, ◌≤◌, ◌+◌, ◌⊎◌, ℕ, suc, List, ◌∷◌, IfSome, Option, None, Some, Ok, Err, Bool, true, false, ◌&&◌, inl, inr, length, take, drop, codes, arith}
-use Rattle.std.specs.FinMap as map
+use Rattle.std.proofs.Common.{◌≡◌, refl, sym, ap, ◌∙◌, subst, ◌<◌, ◌≤◌, ◌+◌, ◌⊎◌, ℕ, suc, List, ◌∷◌, IfSome, Option, None, Some, Ok, Err, Bool, true, ◌&&◌, inl, inr, length, take, drop, codes, arith}
 use Rattle.std.specs.List.{list_all}
 use Rattle.std.proofs.lemmas.List.{take-append-drop, length-take}
 use Rattle.std.proofs.lemmas.List.Folds.{list_all-append}
 use Rattle.std.proofs.lemmas.Option.{IfSome_then}
+use Rattle.ml_term.proofs.Columns.{and_first}
 use Rattle.ml_outside.specs.Held.{Files}
 use Rattle.ml_outside.specs.Causes.{Rose}
 use Rattle.ml_search.specs.Program.{Program, Script}
 use Rattle.ml_run.specs.Words.{AreWords, NamesFile, is_name}
 use Rattle.ml_run.specs.Texts.{Loads}
 use Rattle.ml_run.specs.Outcomes.{Outcome, refused, inputs, RulesCome, ScriptsCome, FilesLead, Leads, HasInputs, status_of}
-use Rattle.ml_run.specs.Causes.{HoldsLong, FetchStops, Stops, ScriptsStop, IsReached, FilesStop}
+use Rattle.ml_run.specs.Causes.{Stops, ScriptsStop, IsReached, FilesStop}
 use Rattle.ml_run.specs.Answers.{Counts, IsCaused, IsQuiet, TellsOutcome, RefusesFile}
-use Rattle.ml_run.specs.Prints.{IsBeginning}
-use Rattle.ml_run.specs.Status.{NamesWord}
 use Rattle.ml_run.specs.declared.status.Status.{Status}
 use Rattle.ml_run.specs.declared.status.Status.TheVariants.{Done, BadWords, NoFile, TooLong, ReadFailed, RulesRefused, ScriptRefused, WriteFailed, OutOfMemory, NotBuilt}
 use Rattle.ml_run.proofs.Outcomes.{one_outcome}
@@ -27,21 +25,6 @@ both (Some x) p q f = f x p q
 
 pub rose_later : (before mid now : ℕ) → before ≤ mid → Rose mid now → Rose before now
 rose_later before mid now le rose = omega arith
-
--- what stops a fetch stops what the text is wanted for
-pub fetch_stops : (held : Option Files) (name : List ℕ) (Leading : Files → Status → Type 0) (word before now : ℕ) (status : Status)
-    → ((files : Files) → map.get files name ≡ None → Leading files (NoFile word)) → ((files : Files) → HoldsLong files name → Leading files (TooLong word))
-    → FetchStops held name word before now status → Stops held Leading word before now status
-fetch_stops held name Leading word before now Done none long h = absurd h
-fetch_stops held name Leading word before now BadWords none long h = absurd h
-fetch_stops held name Leading word before now (NoFile i) none long h = (h.0, IfSome_then held h.1 (λ files e. subst (λ i. Leading files (NoFile i)) (sym h.0) (none files e)))
-fetch_stops held name Leading word before now (TooLong i) none long h = (h.0, IfSome_then held h.1 (λ files e. subst (λ i. Leading files (TooLong i)) (sym h.0) (long files e)))
-fetch_stops held name Leading word before now (ReadFailed i) none long h = h
-fetch_stops held name Leading word before now (RulesRefused f) none long h = absurd h
-fetch_stops held name Leading word before now (ScriptRefused k f) none long h = absurd h
-fetch_stops held name Leading word before now WriteFailed none long h = absurd h
-fetch_stops held name Leading word before now OutOfMemory none long h = tt
-fetch_stops held name Leading word before now (NotBuilt i) none long h = absurd h
 
 -- what stops a step stops one that began before, where this leads from the refusals of one to those of the other
 pub stops_behind : (held : Option Files) (Before : Files → Type 0) (Leading Leading' : Files → Status → Type 0) (word before mid now : ℕ) (status : Status) → before ≤ mid → IfSome held Before
@@ -92,10 +75,6 @@ scripts_stop held rules scripts r before mid now status le read h = record {
   stops = stops_behind held (λ files. RulesCome files rules (Ok r)) _ (λ files status. FilesLead files rules scripts (refused status)) (2 + h.got) before mid now status le read (λ files status rs ss. (Ok r, rs, (Err status, ss, refl))) h.stops;
 }
 
-and_first : (a b : Bool) → (a && b) ≡ true → a ≡ true
-and_first true b e = refl
-and_first false b e = e
-
 list_all-take : {A : Type 0} (p : A → Bool) (n : ℕ) (xs : List A) → list_all p xs ≡ true → list_all p (take n xs) ≡ true
 list_all-take p n xs h =
     let whole : (list_all p (take n xs) && list_all p (drop n xs)) ≡ true = sym (list_all-append p (take n xs) (drop n xs)) ∙ ap (list_all p) (take-append-drop n xs) ∙ h in
@@ -142,49 +121,6 @@ module _ (words : List (List ℕ)) (rules : List ℕ) (scripts : List (List ℕ)
 
   pub caused_by_files : (held : Option Files) (counts : Counts) (status : Status) → FilesStop held rules scripts counts.reads counts.reads_now status → IsCaused held words counts status
   caused_by_files held counts status h = caused_at held counts h.word status (rules, scripts, are, h.some, h.there) h.reached h.stops
-
--- a step at a file ends in no print
-pub quiet_stop : (Leading : Files → Status → Type 0) (held : Option Files) (words : List (List ℕ)) (word before now : ℕ) (status : Status) (written : Option (List ℕ))
-    → Stops held Leading word before now status → IsBeginning held words written written status
-quiet_stop Leading held words word before now Done written h = absurd h.0
-quiet_stop Leading held words word before now BadWords written h = absurd h.0
-quiet_stop Leading held words word before now (NoFile i) written h = refl
-quiet_stop Leading held words word before now (TooLong i) written h = refl
-quiet_stop Leading held words word before now (ReadFailed i) written h = refl
-quiet_stop Leading held words word before now (RulesRefused f) written h = refl
-quiet_stop Leading held words word before now (ScriptRefused k f) written h = refl
-quiet_stop Leading held words word before now WriteFailed written h = absurd h.0
-quiet_stop Leading held words word before now OutOfMemory written h = inl refl
-quiet_stop Leading held words word before now (NotBuilt i) written h = refl
-
-pub not_done : (Leading : Files → Status → Type 0) (held : Option Files) (word before now : ℕ) (status : Status) → Stops held Leading word before now status → status ≡ Done → ⊥
-not_done Leading held word before now Done h e = absurd h.0
-not_done Leading held word before now BadWords h e = cc e
-not_done Leading held word before now (NoFile i) h e = cc e
-not_done Leading held word before now (TooLong i) h e = cc e
-not_done Leading held word before now (ReadFailed i) h e = cc e
-not_done Leading held word before now (RulesRefused f) h e = cc e
-not_done Leading held word before now (ScriptRefused k f) h e = cc e
-not_done Leading held word before now WriteFailed h e = cc e
-not_done Leading held word before now OutOfMemory h e = cc e
-not_done Leading held word before now (NotBuilt i) h e = cc e
-
--- words of the form that name a file have it
-below : (words : List (List ℕ)) (i : ℕ) → NamesFile words i → i < length words
-below words i (rules, scripts, are, some, there) = omega (arith, ap length are.are, there)
-
--- a status that names a word names one that is there
-pub named_word : (held : Option Files) (words : List (List ℕ)) (counts : Counts) (status : Status) → IsCaused held words counts status → NamesWord (length words) status
-named_word held words counts Done h = tt
-named_word held words counts BadWords h = tt
-named_word held words counts (NoFile i) h = below words i h.0
-named_word held words counts (TooLong i) h = below words i h.0
-named_word held words counts (ReadFailed i) h = below words i h.1.0
-named_word held words counts (RulesRefused f) h = tt
-named_word held words counts (ScriptRefused k f) h = tt
-named_word held words counts WriteFailed h = tt
-named_word held words counts OutOfMemory h = tt
-named_word held words counts (NotBuilt i) h = below words i h.0
 
 -- where no fault is counted, the status is that of the outcome
 module _ (once : OneFault) (apart : ReadOrFault) where

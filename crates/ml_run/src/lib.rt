@@ -20,4 +20,6 @@ pub use run::serial;
 pub use status::Status;
 
 #[cfg(test)]
+mod refused_tests;
+#[cfg(test)]
 mod tests;

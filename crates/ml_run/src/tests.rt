@@ -1,20 +1,19 @@
-// What no clause says: worked runs, and that no case ends for want of memory while there is plenty.
+// What no clause says: worked runs, and that none ends for want of memory while there is plenty.
 ghost use Rattle.std.specs.Prelude.{None};
 
 use crate::{Status, line_of, serial};
 use ml_outside::{FetchStop, MemShelf, MemSink, PutStop, Shelf, Sink, WriteStop};
-use ml_reader::{ReadFault, ReadKind};
 use std::alloc::Global;
 use std::test::Fail;
 
-const WORDS: [&str; 3] = ["serial", "rules.pl", "s1"];
+pub const WORDS: [&str; 3] = ["serial", "rules.pl", "s1"];
 
-const RULES: &[u8] = b":- relation(p/1). p(2). p(1).";
+pub const RULES: &[u8] = b":- relation(p/1). p(2). p(1).";
 
 const PRINTED: &[u8] = b"session 1 committed\ngoal 1\n  X = 1\n  X = 2\n  2 answers\n";
 
 // A shelf with these rules and this script.
-fn shelf_of(alloc: Global, rules: &[u8], script: &[u8]) -> Result<MemShelf, PutStop> {
+pub fn shelf_of(alloc: Global, rules: &[u8], script: &[u8]) -> Result<MemShelf, PutStop> {
     let mut shelf = MemShelf::new(alloc);
     shelf.put(alloc, "rules.pl", rules)?;
     shelf.put(alloc, "s1", script)?;
@@ -96,268 +95,6 @@ fn each_run_prints_its_answers_in_key_order(rt: HostRuntime) -> Result<(), Fail>
     Ok(())
 }
 
-// Rules, a script, and the status and its line where one of them isn't run.
-const OTHERS: [(&[u8], &[u8], Status, &[u8]); 19] = [
-    (
-        b"a = b = c.",
-        b"",
-        Status::RulesRefused(ReadFault {
-            place: 6,
-            kind: ReadKind::PriorityClash,
-        }),
-        b"megalog: rules PriorityClash at 6\n",
-    ),
-    (
-        b"p(1",
-        b"",
-        Status::RulesRefused(ReadFault {
-            place: 3,
-            kind: ReadKind::Unexpected,
-        }),
-        b"megalog: rules Unexpected at 3\n",
-    ),
-    (
-        b"p(1)",
-        b"",
-        Status::RulesRefused(ReadFault {
-            place: 4,
-            kind: ReadKind::Unexpected,
-        }),
-        b"megalog: rules Unexpected at 4\n",
-    ),
-    (
-        b":- relation(p/1). :- relation(p/1).",
-        b"",
-        Status::RulesRefused(ReadFault {
-            place: 18,
-            kind: ReadKind::TwiceDeclared,
-        }),
-        b"megalog: rules TwiceDeclared at 18\n",
-    ),
-    (
-        b"p(\"x\").",
-        b"",
-        Status::RulesRefused(ReadFault {
-            place: 2,
-            kind: ReadKind::LeftOutQuote,
-        }),
-        b"megalog: rules LeftOutQuote at 2\n",
-    ),
-    (
-        b":- relation(p/1). p(X).",
-        b"",
-        Status::RulesRefused(ReadFault {
-            place: 18,
-            kind: ReadKind::BadClause,
-        }),
-        b"megalog: rules BadClause at 18\n",
-    ),
-    (
-        b":- relation(p/1). p(9).p(9).",
-        b"",
-        Status::RulesRefused(ReadFault {
-            place: 22,
-            kind: ReadKind::Unexpected,
-        }),
-        b"megalog: rules Unexpected at 22\n",
-    ),
-    (
-        b":- relation(p/1). p (9).",
-        b"",
-        Status::RulesRefused(ReadFault {
-            place: 20,
-            kind: ReadKind::Unexpected,
-        }),
-        b"megalog: rules Unexpected at 20\n",
-    ),
-    (
-        b":- relation(atom/1).",
-        b"",
-        Status::RulesRefused(ReadFault {
-            place: 0,
-            kind: ReadKind::BadDeclaration,
-        }),
-        b"megalog: rules BadDeclaration at 0\n",
-    ),
-    (
-        b":- relation(p/1). p(2305843009213693952).",
-        b"",
-        Status::RulesRefused(ReadFault {
-            place: 20,
-            kind: ReadKind::NumberTooLarge,
-        }),
-        b"megalog: rules NumberTooLarge at 20\n",
-    ),
-    (
-        RULES,
-        b"p(1).",
-        Status::ScriptRefused(
-            1,
-            ReadFault {
-                place: 0,
-                kind: ReadKind::BadScriptItem,
-            },
-        ),
-        b"megalog: script 1 BadScriptItem at 0\n",
-    ),
-    (
-        RULES,
-        b"?- p(X). ?- p(",
-        Status::ScriptRefused(
-            1,
-            ReadFault {
-                place: 14,
-                kind: ReadKind::Unexpected,
-            },
-        ),
-        b"megalog: script 1 Unexpected at 14\n",
-    ),
-    (
-        b"p(1).",
-        b"?- p(X).",
-        Status::NotBuilt(1),
-        b"megalog: not built rules.pl\n",
-    ),
-    (
-        b":- clauses(c/1). c(1).",
-        b"",
-        Status::NotBuilt(1),
-        b"megalog: not built rules.pl\n",
-    ),
-    (
-        b":- relation(p/2).",
-        b"?- p(X).",
-        Status::NotBuilt(2),
-        b"megalog: not built s1\n",
-    ),
-    (
-        b"",
-        b"?- p(X).",
-        Status::NotBuilt(2),
-        b"megalog: not built s1\n",
-    ),
-    (
-        RULES,
-        b"?- p(X), p(Y).",
-        Status::NotBuilt(2),
-        b"megalog: not built s1\n",
-    ),
-    (
-        RULES,
-        b"?- p(X). :- abort.",
-        Status::NotBuilt(2),
-        b"megalog: not built s1\n",
-    ),
-    (
-        RULES,
-        b"?- p(X). :- commit_unless(p(1)).",
-        Status::NotBuilt(2),
-        b"megalog: not built s1\n",
-    ),
-];
-
-#[test]
-fn a_text_that_is_not_read_or_not_run_is_told(rt: HostRuntime) -> Result<(), Fail> {
-    let alloc = rt.alloc();
-    for (rules, script, wanted, line) in OTHERS {
-        let mut shelf = shelf_of(alloc, rules, script)?;
-        let mut out = MemSink::new(alloc);
-        let status = serial(alloc, &WORDS, &mut shelf, &mut out);
-        assert_eq!(rt; status, wanted);
-        assert!(rt; out.bytes().is_empty());
-        let told = line_of(alloc, &status, &WORDS)?;
-        assert_eq!(rt; told.as_slice(), line);
-    }
-    Ok(())
-}
-
-// Words, the status, its number, and its line, where `rules.pl` and `s1` are held and nothing else.
-const REFUSED: [(&[&str], Status, u8, &[u8]); 9] = [
-    (&[], Status::BadWords, 2, b"megalog: bad words\n"),
-    (&["serial"], Status::BadWords, 2, b"megalog: bad words\n"),
-    (
-        &["run", "rules.pl", "s1"],
-        Status::BadWords,
-        2,
-        b"megalog: bad words\n",
-    ),
-    (
-        &["serial", "rules.pl", "s1", "-s"],
-        Status::BadWords,
-        2,
-        b"megalog: bad words\n",
-    ),
-    (
-        &["serial", "none", "gone"],
-        Status::NoFile(1),
-        3,
-        b"megalog: no file none\n",
-    ),
-    (
-        &["serial", "rules.pl", "s1", "gone"],
-        Status::NoFile(3),
-        3,
-        b"megalog: no file gone\n",
-    ),
-    (
-        &["serial", "s1", "gone"],
-        Status::RulesRefused(ReadFault {
-            place: 0,
-            kind: ReadKind::BadClause,
-        }),
-        6,
-        b"megalog: rules BadClause at 0\n",
-    ),
-    (
-        &["serial", "rules.pl", "s1", "rules.pl", "gone"],
-        Status::ScriptRefused(
-            2,
-            ReadFault {
-                place: 0,
-                kind: ReadKind::BadScriptItem,
-            },
-        ),
-        7,
-        b"megalog: script 2 BadScriptItem at 0\n",
-    ),
-    (&["serial", "rules.pl"], Status::Done, 0, b""),
-];
-
-#[test]
-fn each_refusal_has_its_line(rt: HostRuntime) -> Result<(), Fail> {
-    let alloc = rt.alloc();
-    for (words, wanted, number, line) in REFUSED {
-        let mut shelf = shelf_of(alloc, RULES, b"?- p(X).")?;
-        let mut out = MemSink::new(alloc);
-        let status = serial(alloc, words, &mut shelf, &mut out);
-        assert_eq!(rt; status, wanted);
-        assert_eq!(rt; status.number(), number);
-        assert!(rt; out.bytes().is_empty());
-        let told = line_of(alloc, &status, words)?;
-        assert_eq!(rt; told.as_slice(), line);
-    }
-    Ok(())
-}
-
-#[test]
-fn a_text_of_the_limit_is_read_and_one_byte_more_is_too_long(rt: HostRuntime) -> Result<(), Fail> {
-    let alloc = rt.alloc();
-    let words: [&str; 2] = ["serial", "rules.pl"];
-    let mut rules = vec![in alloc; b'%'; 1048576]?;
-    let mut shelf = shelf_of(alloc, &rules, b"")?;
-    let mut out = MemSink::new(alloc);
-    assert_eq!(rt; serial(alloc, &words, &mut shelf, &mut out), Status::Done);
-    rules.push(b'%')?;
-    shelf.put(alloc, "rules.pl", &rules)?;
-    let status = serial(alloc, &words, &mut shelf, &mut out);
-    assert_eq!(rt; status, Status::TooLong(1));
-    assert_eq!(rt; status.number(), 4);
-    assert!(rt; out.bytes().is_empty());
-    let line = line_of(alloc, &status, &words)?;
-    assert_eq!(rt; line.as_slice(), b"megalog: too long rules.pl\n".as_slice());
-    Ok(())
-}
-
 // The words of a run of so many scripts.
 fn words_of(alloc: Global, scripts: usize) -> Result<Vec<&'static str>, Fail> {
     let mut words = Vec::new(alloc);
@@ -388,41 +125,6 @@ fn sixty_four_scripts_are_run_in_order_and_not_one_more(rt: HostRuntime) -> Resu
         Status::BadWords
     );
     assert!(rt; more.bytes().is_empty());
-    Ok(())
-}
-
-// Rules of one tuple of so many atoms of 255 bytes.
-fn rules_of_atoms(alloc: Global, atoms: usize) -> Result<Vec<u8>, Fail> {
-    let atom = vec![in alloc; b'a'; 255]?;
-    let mut rules = Vec::new(alloc);
-    let declared = format!(in alloc; ":- relation(t/{atoms}). t(")?;
-    rules.extend_from_slice(declared.as_bytes())?;
-    for i in 0..atoms {
-        if i > 0 {
-            rules.push(b',')?;
-        }
-        rules.extend_from_slice(&atom)?;
-    }
-    rules.extend_from_slice(b").")?;
-    Ok(rules)
-}
-
-#[test]
-fn an_item_of_too_many_bytes_is_a_fault_at_its_first_token(rt: HostRuntime) -> Result<(), Fail> {
-    let alloc = rt.alloc();
-    let mut shelf = shelf_of(alloc, &rules_of_atoms(alloc, 15)?, b"")?;
-    let mut out = MemSink::new(alloc);
-    assert_eq!(rt; serial(alloc, &WORDS, &mut shelf, &mut out), Status::Done);
-    shelf.put(alloc, "rules.pl", &rules_of_atoms(alloc, 16)?)?;
-    let wanted = ReadFault {
-        place: 19,
-        kind: ReadKind::ItemTooLarge,
-    };
-    assert_eq!(rt;
-        serial(alloc, &WORDS, &mut shelf, &mut out),
-        Status::RulesRefused(wanted)
-    );
-    assert_eq!(rt; out.bytes(), b"session 1 committed\n".as_slice());
     Ok(())
 }
 

@@ -1,4 +1,4 @@
--- Why a run ended as it did.
+-- Why a run ended as it did. The code hands on what it met; here a cause is told by what the shelf holds and by counts of faults.
 use Rattle.std.specs.Prelude.{◌≡◌, ◌⊎◌, ◌≤◌, ◌+◌, ℕ, List, Option, IfSome, take}
 use Rattle.ml_outside.specs.Held.{Files}
 use Rattle.ml_outside.specs.Causes.{Rose}

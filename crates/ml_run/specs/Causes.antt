@@ -1,4 +1,4 @@
--- Why a step of a run gave no result.
+-- Why a step of a run gave no result. The causes of a whole run are those of its steps, one after another.
 use Rattle.std.specs.Prelude.{◌≡◌, ◌⊎◌, ◌≤◌, ◌<◌, ◌+◌, ℕ, List, Option, Some, None, Ok, Err, IfSome, length, take}
 use Rattle.std.specs.FinMap as map
 use Rattle.ml_outside.specs.Held.{Files}

@@ -1,4 +1,4 @@
--- The lines of sessions, and the blocks of a run's entries.
+-- The lines of sessions, and the blocks of a run's entries. The code keeps a block as bytes; here it is that of an entry of the history.
 use Rattle.std.specs.Prelude.{◌≡◌, ℕ, Bool, List, map, codes, ◌++◌, Vec}
 use Rattle.std.specs.declared.alloc.Global.{Global}
 use Rattle.ml_term.specs.Decimal.{decimal_text}

@@ -1,4 +1,5 @@
--- The first refusal, or the inputs, for what a shelf holds: words first, then the rules, then each script in order.
+-- The first refusal, or the inputs, for what a shelf holds: words first, then the rules, then each script in order. The code stops at the first refusal; here
+-- it is said what each file comes to.
 use Rattle.std.specs.Prelude.{◌≡◌, ◌⊎◌, ◌+◌, ◌&&◌, ℕ, Bool, true, false, List, [], ◌∷◌, Result, Ok, Err, cond}
 use Rattle.std.specs.List.{list_all}
 use Rattle.ml_outside.specs.Held.{Files}

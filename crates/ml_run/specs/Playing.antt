@@ -1,4 +1,4 @@
--- What the sessions of inputs print, and why they don't.
+-- What the sessions of inputs print, and why they don't. The code makes all blocks and then writes them.
 use Rattle.std.specs.Prelude.{◌≡◌, ◌⊎◌, ℕ, List, Option}
 use Rattle.ml_outside.specs.Causes.{Rose}
 use Rattle.ml_outside.specs.Written.{AppendedFront}

@@ -1,4 +1,4 @@
--- What a run prints.
+-- What a run prints. The code writes a block for each session; here it is the print of the whole history.
 use Rattle.std.specs.Prelude.{◌≡◌, ◌⊎◌, ℕ, Bool, List, map, length, Option, IfSome}
 use Rattle.ml_outside.specs.Held.{Files}
 use Rattle.ml_outside.specs.Written.{AppendedFront}

@@ -1,4 +1,4 @@
--- What stands under the name of a file, as rules and as a script.
+-- What stands under the name of a file, as rules and as a script. The code fetches a file and reads it; here it is said of what the shelf holds.
 use Rattle.std.specs.Prelude.{◌≡◌, ◌<◌, ◌≤◌, ℕ, List, length, Some, None}
 use Rattle.std.specs.FinMap as map
 use Rattle.ml_outside.specs.Held.{Files}

@@ -1,4 +1,4 @@
--- The words of the command.
+-- The words of the command. The code looks at one after another; here they are one list.
 use Rattle.std.specs.Prelude.{◌≡◌, ◌≤◌, ◌+◌, ◌==◌, not, ℕ, Bool, false, IsTrue, List, [], ◌∷◌, map, length, codes}
 use Rattle.std.specs.List.{list_all}
 use Rattle.std.specs.Borrow.{Bor}

@@ -1,11 +1,11 @@
 -- An item is found at one place.
-use Rattle.std.proofs.Common.{◌≡◌, ℕ, ◌<◌, Bool, true, List, [], length, get_or, refl, sym, ap, subst, ◌∙◌, arith}
+use Rattle.std.proofs.Common.{◌≡◌, ℕ, ◌<◌, Bool, true, List, [], length, get_or, sym, ap, subst, ◌∙◌, arith}
 use Rattle.std.specs.Prelude.{Contains, Option}
 use Rattle.std.proofs.lemmas.List.{get_or_default}
 use Rattle.ml_key.proofs.Beginnings.{owner_holds}
 use Rattle.ml_term.specs.Patterns.{fits, may_hold}
 use Rattle.ml_region.specs.Prefixes.{bits_at, IsOwner}
-use Rattle.ml_region.specs.Regions.{Region, region_prefixes, items_at, keys_of, keys_at, HasKey, IsFound, IsWellPlaced}
+use Rattle.ml_region.specs.Regions.{Region, region_prefixes, items_at, keys_at, HasKey, IsFound, IsWellPlaced}
 use Rattle.ml_region.specs.declared.item.Item.{Item}
 use Rattle.ml_region.proofs.Found.{key_of_item}
 use Rattle.ml_region.proofs.Owners.{one_owner, one_place}

@@ -1,4 +1,4 @@
-use Rattle.std.proofs.Common.{◌≡◌, ◌+◌, ◌≤◌, ℕ, List, length, sym, ap, arith}
+use Rattle.std.proofs.Common.{◌≡◌, List, length, ap, arith}
 use Rattle.ml_region.specs.Regions.{Region, items_at, region_at, region_prefixes}
 use Rattle.ml_region.proofs.Owners.{one_parent}
 use Rattle.ml_region.proofs.tests.merged.Goals as goal

@@ -9,3 +9,7 @@ pub mod Pages
 pub mod Standing
 pub mod Found
 pub mod Inserted
+pub mod Filtered
+pub mod Cutting
+pub mod Below
+pub mod Changing

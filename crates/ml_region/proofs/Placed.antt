@@ -25,10 +25,10 @@ region_at_same regions i items h = get_or-set_same regions i (record { prefix = 
 pub region_at_other : (regions : List Region) (i k : ℕ) (items : List Item) → k ≢ i → region_at (with_items regions i items) k ≡ region_at regions k
 region_at_other regions i k items d = get_or-set_other regions i k (record { prefix = (region_at regions i).prefix; items = items }) empty_region d
 
-items_same : (regions : List Region) (i : ℕ) (items : List Item) → i < length regions → items_at (with_items regions i items) i ≡ items
+pub items_same : (regions : List Region) (i : ℕ) (items : List Item) → i < length regions → items_at (with_items regions i items) i ≡ items
 items_same regions i items h = ap (λ (r : Region). r.items) (region_at_same regions i items h)
 
-items_other : (regions : List Region) (i k : ℕ) (items : List Item) → k ≢ i → items_at (with_items regions i items) k ≡ items_at regions k
+pub items_other : (regions : List Region) (i k : ℕ) (items : List Item) → k ≢ i → items_at (with_items regions i items) k ≡ items_at regions k
 items_other regions i k items d = ap (λ (r : Region). r.items) (region_at_other regions i k items d)
 
 -- what the items that come to a place must keep

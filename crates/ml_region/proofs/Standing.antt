@@ -5,10 +5,16 @@ use Rattle.std.specs.List.{insert, remove}
 use Rattle.std.proofs.Math.ListN.{length-set}
 use Rattle.std.proofs.lemmas.List.{length-map, map-set, set-get_or, get_or-map}
 use Rattle.std.proofs.lemmas.List.Edits.{length-insert, length-remove}
+use Rattle.std.specs.Prelude.{IsTrue}
+use Rattle.std.proofs.Props.{props}
+use Rattle.ml_term.specs.Seen.{seen}
+use Rattle.ml_term.specs.Valid.{is_valid}
+use Rattle.ml_region.specs.Changes.{IsMarkedAt}
+use Rattle.ml_region.specs.declared.item.Id.{Id}
 use Rattle.ml_bits.specs.BitList.{Begins}
 use Rattle.ml_region.specs.Prefixes.{IsRising, IsPlaceFor, IsOwner}
 use Rattle.ml_region.specs.Listing.{Entry, slot_at}
-use Rattle.ml_region.specs.Regions.{Region, region_prefixes, items_at, keys_of, keys_at, IsWellPlaced}
+use Rattle.ml_region.specs.Regions.{IsApart, Region, region_prefixes, items_at, keys_of, keys_at, IsWellPlaced}
 use Rattle.ml_region.specs.Stored.{regions_of, AreShared, IsStored}
 use Rattle.ml_region.specs.declared.item.Item.{Item}
 use Rattle.ml_region.proofs.Lists.{map_insert, map_remove, contains_insert, contains_remove, rising_insert, rising_remove}
@@ -34,10 +40,6 @@ stored_with entries pages free reserved i items stored h may =
       room = omega (arith, stored.room, long);
       placed = subst IsWellPlaced (sym (set_page entries pages free i items stored.shared h)) (placed_with_items (regions_of entries pages) i items stored.placed may);
     }
-
--- no item's key begins a key or begins with it
-abbrev pub IsApart : List Region → List Bool → Type 0
-IsApart regions key = (i : ℕ) (other : List Bool) → i < length regions → Contains (keys_at regions i) other → (Begins other key → ⊥) × (Begins key other → ⊥)
 
 pub may_insert : (regions : List Region) (i j : ℕ) (x : Item) → IsWellPlaced regions → IsOwner (region_prefixes regions) x.key.bits i → IsPlaceFor (keys_at regions i) x.key.bits j
     → length (items_at regions i) < 31 → IsApart regions x.key.bits → i < length regions → MayStand regions i (insert (items_at regions i) j x)
@@ -108,3 +110,14 @@ may_set regions i j x old placed h g is e =
     let keys : keys_of (set items j x) ≡ keys_of items = keys_set items j x old g is e in
     may_lessen regions i (set items j x) placed h (subst IsRising (sym keys) (placed.ordered i h)) (omega (arith, placed.few i h, length-set items j x))
     (λ k c. subst (λ ks. Contains ks k) keys c)
+
+-- a fact that is kept has one proof
+pub marked_at : (old : List Item) (j : ℕ) (committed : Bool) (id : Id) (x : Item) (v : IsTrue (is_valid (seen x.term))) → x ≡ get_or old j x
+    → IsMarkedAt old j committed id (set old j (record { key = x.key; term = x.term; number = x.number; committed = committed; front = x.front; id = id; valid = v }))
+marked_at old j committed id x v is =
+    let one : IsProp (IsTrue (is_valid (seen x.term))) = hlevel props in
+    record {
+      item = x;
+      there = is;
+      same = ap (λ (w : IsTrue (is_valid (seen x.term))). set old j (record { key = x.key; term = x.term; number = x.number; committed = committed; front = x.front; id = id; valid = w })) (one v x.valid);
+    }

@@ -1,5 +1,5 @@
 -- What the calls that change regions do to them. The code moves items between pages and entries in a directory.
-use Rattle.std.specs.Prelude.{ℕ, ◌≡◌, Bool, List, ◌++◌, not, slice_set}
+use Rattle.std.specs.Prelude.{ℕ, ◌≡◌, Bool, List, ◌++◌, not, slice_index_or, slice_set}
 use Rattle.std.specs.List.{filter, insert, remove}
 use Rattle.std.specs.List.Sorted.{IsPermutation}
 use Rattle.ml_term.specs.Patterns.{begins}
@@ -24,6 +24,12 @@ pub record IsTaken (old : List Region) (key : List Bool) (item : Item) (new : Li
 -- an item with another mark and another origin
 abbrev pub marked : Item → Bool → Id → Item
 marked item committed id = record item { committed = committed; id = id }
+
+-- the item at a place of a list got this mark and this origin
+pub record IsMarkedAt (old : List Item) (place : ℕ) (committed : Bool) (id : Id) (new : List Item) : Type 0 where
+  pub item : Item
+  pub there : item ≡ slice_index_or old place item
+  pub same : new ≡ slice_set old place (marked item committed id)
 
 -- the item that has a key got this mark and this origin
 pub record IsMarked (old : List Region) (key : List Bool) (committed : Bool) (id : Id) (new : List Region) : Type 0 where

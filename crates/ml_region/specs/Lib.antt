@@ -4,3 +4,4 @@ pub mod Kept
 pub mod Regions
 pub mod Stored
 pub mod Changes
+pub mod Compatible

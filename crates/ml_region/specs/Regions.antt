@@ -54,6 +54,16 @@ pub record IsWellPlaced (regions : List Region) : Type 0 where
   pub apart : (i j : ℕ) (key other : List Bool) → i < length regions → j < length regions → Contains (keys_at regions i) key → Contains (keys_at regions j) other
       → Begins key other → key ≡ other
 
+-- no item's key begins a key or begins with it
+abbrev pub IsApart : List Region → List Bool → Type 0
+IsApart regions key = (i : ℕ) (other : List Bool) → i < length regions → Contains (keys_at regions i) other → (Begins other key → ⊥) × (Begins key other → ⊥)
+
+-- some item has the key
+pub record HasKey (regions : List Region) (key : List Bool) : Type 0 where
+  pub region : ℕ
+  pub within : region < length regions
+  pub among : Contains (keys_at regions region) key
+
 -- no item has the key
 abbrev pub HasNoKey : List Region → List Bool → Type 0
 HasNoKey regions key = (i : ℕ) → i < length regions → Contains (keys_at regions i) key → ⊥

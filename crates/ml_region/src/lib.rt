@@ -5,6 +5,8 @@
 //! The invariant: each item lies in the region that owns its key, and no item's key begins the key of another.
 #![tactic(auto)]
 
+mod change;
+mod compatible;
 mod directory;
 mod item;
 mod kept;

@@ -1,11 +1,12 @@
 //! The items of one region, and the searches among them.
 ghost use Rattle.std.specs.Prelude.{◌≡◌, ◌<◌, ◌≤◌, [], length, slice_index_or, Contains, IfOk, MatchOption};
 ghost use Rattle.std.specs.List.{insert, remove};
+ghost use Rattle.ml_region.specs.Changes.{IsMarkedAt};
 ghost use Rattle.ml_region.specs.Prefixes.{IsRising, bits_at};
 ghost use Rattle.ml_region.specs.Regions.{keys_of};
 ghost use Rattle.ml_region.specs.Stored.{IsFirstFrom};
 
-use crate::item::Item;
+use crate::item::{Id, Item};
 use crate::limits::MOST_ITEMS;
 use ml_bits::{Bits, OutOfMemory};
 use std::alloc::Global;
@@ -108,5 +109,15 @@ impl Page {
         ensures rest { self.new ≡ remove self.old j }
     {
         self.items.remove(j)
+    }
+
+    /// Sets whether the item at a place is committed, and where it came from.
+    pub(crate) fn mark(&mut self, j: usize, committed: bool, id: Id)
+        requires { j < length self.old }
+        ensures { IsMarkedAt self.old j committed id self.new }
+    {
+        let item = &mut self.items[j];
+        item.committed = committed;
+        item.id = id;
     }
 }

@@ -1,5 +1,5 @@
 //! The regions of a file, and what can be read of them.
-ghost use Rattle.std.specs.Prelude.{◌≡◌, ◌<◌, [], ◌∷◌, length, slice_index_or, IfOk, MatchOption};
+ghost use Rattle.std.specs.Prelude.{◌≡◌, ◌<◌, [], ◌∷◌, length, max, slice_index_or, IfOk, MatchOption, OnErr, OnOk};
 ghost use Rattle.ml_region.specs.Listing.{only_root};
 ghost use Rattle.ml_region.specs.Prefixes.{IsOwner, IsParent};
 ghost use Rattle.ml_region.specs.Regions.{HasNoKey, IsFound, IsWellPlaced, empty_region, items_at, region_at, region_prefixes};
@@ -120,5 +120,14 @@ impl<D: Directory> Regions<D> {
         let page = &self.pages[self.dir.owner(key)];
         let j = page.find(key)?;
         Some(page.item(j))
+    }
+
+    /// Gives every prefix room for so many bits. After an error nothing has changed.
+    pub fn make_room(&mut self, bits: usize) -> Result<(), OutOfMemory>
+        ensures regions { self.new.regions ≡ self.old.regions }
+        ensures ok { OnOk result (self.new.room ≡ max self.old.room bits) }
+        ensures err { OnErr result (self.new.room ≡ self.old.room) }
+    {
+        self.dir.make_room(bits)
     }
 }

@@ -13,3 +13,6 @@ pub mod Filtered
 pub mod Cutting
 pub mod Below
 pub mod Changing
+pub mod CutStored
+pub mod Moving
+pub mod CutSteps

@@ -5,3 +5,4 @@ pub mod Regions
 pub mod Stored
 pub mod Changes
 pub mod Compatible
+pub mod Moves

@@ -7,10 +7,12 @@
 
 mod change;
 mod compatible;
+mod cut;
 mod directory;
 mod item;
 mod kept;
 mod limits;
+mod moves;
 mod order;
 mod page;
 mod places;

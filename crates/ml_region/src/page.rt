@@ -120,4 +120,11 @@ impl Page {
         item.committed = committed;
         item.id = id;
     }
+
+    /// Lets all items go.
+    pub(crate) fn clear(&mut self)
+        ensures { self.new ≡ [] }
+    {
+        self.items.clear();
+    }
 }

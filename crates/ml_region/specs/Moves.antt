@@ -1,0 +1,11 @@
+-- Items that move from one page to another.
+use Rattle.std.specs.Prelude.{ℕ, ◌≡◌, List, [], ◌∷◌, ◌++◌, slice_index_or, slice_set}
+use Rattle.std.specs.List.{remove}
+use Rattle.ml_region.specs.Stored.{page_at}
+use Rattle.ml_region.specs.declared.item.Item.{Item}
+
+-- the item at a place of one page went to the end of another
+pub record IsMoved (old : List (List Item)) (from j to : ℕ) (new : List (List Item)) : Type 0 where
+  pub item : Item
+  pub there : item ≡ slice_index_or (page_at old from) j item
+  pub same : new ≡ slice_set (slice_set old from (remove (page_at old from) j)) to (page_at old to ++ item ∷ [])

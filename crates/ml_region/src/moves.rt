@@ -1,0 +1,46 @@
+//! Items that move from one page to another.
+ghost use Rattle.std.specs.Prelude.{◌≡◌, ◌≢◌, ◌+◌, ◌<◌, ◌≤◌, [], ◌++◌, length, slice_set};
+ghost use Rattle.std.specs.List.{remove};
+ghost use Rattle.ml_region.specs.Changes.{items_below, items_beside};
+ghost use Rattle.ml_region.specs.Moves.{IsMoved};
+ghost use Rattle.ml_region.specs.Stored.{page_at};
+
+use crate::limits::MOST_ITEMS;
+use crate::page::Page;
+use ml_bits::Bits;
+
+/// Moves an item to the end of another page.
+fn move_to_end(pages: &mut [Page], from: usize, j: usize, to: usize)
+    requires from { from < length pages.old }
+    requires to { to < length pages.old }
+    requires apart { from ≢ to }
+    requires item { j < length (page_at pages.old from) }
+    requires few { length (page_at pages.old to) < MOST_ITEMS }
+    ensures { IsMoved pages.old from j to pages.new }
+{
+    let item = pages[from].take(j);
+    let end = pages[to].len();
+    pages[to].put(end, item);
+}
+
+/// Moves the items whose keys begin with a prefix to another page, which has none.
+pub(crate) fn move_below(pages: &mut [Page], from: usize, to: usize, prefix: &Bits)
+    requires from { from < length pages.old }
+    requires to { to < length pages.old }
+    requires apart { from ≢ to }
+    requires few { length (page_at pages.old from) ≤ MOST_ITEMS }
+    requires empty { page_at pages.old to ≡ [] }
+    ensures { pages.new ≡ slice_set (slice_set pages.old from
+        (items_beside prefix.now.bits (page_at pages.old from))) to (items_below prefix.now.bits (page_at pages.old from)) }
+{
+    let mut left = pages[from].len();
+    let mut j = 0;
+    'each: while left > 0 {
+        if prefix.is_prefix_of(&pages[from].item(j).key) {
+            move_to_end(pages, from, j, to);
+        } else {
+            j += 1;
+        }
+        left -= 1;
+    }
+}

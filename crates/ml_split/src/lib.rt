@@ -6,13 +6,15 @@
 
 mod keys;
 pub mod laws;
+mod meeting_keys;
 mod place;
 mod region_keys;
+mod region_settle;
+mod region_split;
 pub mod rows;
-mod split;
 #[cfg(test)]
 mod tests;
 
 pub(crate) use keys::Keys;
 pub use ml_bits::OutOfMemory;
-pub use split::split_prefix;
+pub use region_split::{split, split_prefix};

@@ -16,3 +16,6 @@ pub mod Changing
 pub mod CutStored
 pub mod Moving
 pub mod CutSteps
+pub mod Merging
+pub mod Pouring
+pub mod MergeSteps

@@ -43,29 +43,19 @@ pub record Moving (pages : List (List Item)) (from to : ℕ) (prefix : List Bool
   pub place : j ≡ length (items_beside prefix looked)
   pub same : now ≡ set (set pages from (items_beside prefix looked ++ rest)) to (items_below prefix looked)
 
-pub moving_begins : (pages : List (List Item)) (from to : ℕ) (prefix : List Bool) (left : ℕ) → from < length pages → to < length pages → from ≢ to → page_at pages to ≡ []
-    → left ≡ length (page_at pages from) → Moving pages from to prefix pages 0 left
-moving_begins pages from to prefix left h g n empty e = record {
-  looked = [];
-  rest = page_at pages from;
-  whole = refl;
-  count = e;
-  place = refl;
-  same = sym (ap (set (set pages from (page_at pages from)) to) (sym empty) ∙ stays pages from to h g n);
-}
-  where
-    set_own : (ps : List (List Item)) (k : ℕ) → k < length ps → set ps k (page_at ps k) ≡ ps
-    set_own [] k h = absurd (omega arith)
-    set_own (p ∷ ps) zero h = refl
-    set_own (p ∷ ps) (suc k) h = ap (λ qs. p ∷ qs) (set_own ps k (omega arith))
+pub set_own : (pages : List (List Item)) (k : ℕ) → k < length pages → set pages k (page_at pages k) ≡ pages
+set_own [] k h = absurd (omega arith)
+set_own (p ∷ ps) zero h = refl
+set_own (p ∷ ps) (suc k) h = ap (λ qs. p ∷ qs) (set_own ps k (omega arith))
 
-    stays : (ps : List (List Item)) (from to : ℕ) → from < length ps → to < length ps → from ≢ to → set (set ps from (page_at ps from)) to (page_at ps to) ≡ ps
-    stays ps from to h g n = ap (λ qs. set qs to (page_at ps to)) (set_own ps from h) ∙ set_own ps to g
+-- pages that are written with what they have
+pub stays_same : (pages : List (List Item)) (from to : ℕ) → from < length pages → to < length pages → from ≢ to → set (set pages from (page_at pages from)) to (page_at pages to) ≡ pages
+stays_same pages from to h g n = ap (λ qs. set qs to (page_at pages to)) (set_own pages from h) ∙ set_own pages to g
 
-page_from : (pages : List (List Item)) (from to : ℕ) (a b : List Item) → from < length pages → from ≢ to → page_at (set (set pages from a) to b) from ≡ a
+pub page_from : (pages : List (List Item)) (from to : ℕ) (a b : List Item) → from < length pages → from ≢ to → page_at (set (set pages from a) to b) from ≡ a
 page_from pages from to a b h n = get_or-set_other (set pages from a) to from b [] n ∙ get_or-set_same pages from a [] h
 
-page_to : (pages : List (List Item)) (from to : ℕ) (a b : List Item) → to < length pages → page_at (set (set pages from a) to b) to ≡ b
+pub page_to : (pages : List (List Item)) (from to : ℕ) (a b : List Item) → to < length pages → page_at (set (set pages from a) to b) to ≡ b
 page_to pages from to a b h = get_or-set_same (set pages from a) to b [] (omega (arith, length-set pages from a))
 
 page_now : (pages : List (List Item)) (from to : ℕ) (a b : List Item) (now : List (List Item)) → from < length pages → from ≢ to → now ≡ set (set pages from a) to b → page_at now from ≡ a

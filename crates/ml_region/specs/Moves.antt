@@ -1,6 +1,9 @@
 -- Items that move from one page to another.
 use Rattle.std.specs.Prelude.{ℕ, ◌≡◌, List, [], ◌∷◌, ◌++◌, slice_index_or, slice_set}
 use Rattle.std.specs.List.{remove}
+use Rattle.std.specs.List.Sorted.{IsPermutation}
+use Rattle.ml_region.specs.Prefixes.{IsRising}
+use Rattle.ml_region.specs.Regions.{keys_of}
 use Rattle.ml_region.specs.Stored.{page_at}
 use Rattle.ml_region.specs.declared.item.Item.{Item}
 
@@ -9,3 +12,10 @@ pub record IsMoved (old : List (List Item)) (from j to : ℕ) (new : List (List 
   pub item : Item
   pub there : item ≡ slice_index_or (page_at old from) j item
   pub same : new ≡ slice_set (slice_set old from (remove (page_at old from) j)) to (page_at old to ++ item ∷ [])
+
+-- all items of one page went to another, which has them all in key order
+pub record IsPoured (old : List (List Item)) (from to : ℕ) (new : List (List Item)) : Type 0 where
+  pub items : List Item
+  pub all : IsPermutation (page_at old to ++ page_at old from) items
+  pub rising : IsRising (keys_of items)
+  pub same : new ≡ slice_set (slice_set old from []) to items

@@ -12,12 +12,15 @@ mod directory;
 mod item;
 mod kept;
 mod limits;
+mod merge;
 mod moves;
 mod order;
 mod page;
 mod places;
 mod regions;
 mod sorted_dir;
+#[cfg(test)]
+mod tests;
 
 pub use directory::{Directory, Slot};
 pub use item::{Id, Item};

@@ -1,8 +1,10 @@
 //! Items that move from one page to another.
-ghost use Rattle.std.specs.Prelude.{◌≡◌, ◌≢◌, ◌+◌, ◌<◌, ◌≤◌, [], ◌++◌, length, slice_set};
+ghost use Rattle.std.specs.Prelude.{◌≡◌, ◌≢◌, ◌+◌, ◌<◌, ◌≤◌, Bool, List, [], ◌++◌, length, slice_set, Contains};
 ghost use Rattle.std.specs.List.{remove};
 ghost use Rattle.ml_region.specs.Changes.{items_below, items_beside};
-ghost use Rattle.ml_region.specs.Moves.{IsMoved};
+ghost use Rattle.ml_region.specs.Moves.{IsMoved, IsPoured};
+ghost use Rattle.ml_region.specs.Prefixes.{IsRising};
+ghost use Rattle.ml_region.specs.Regions.{keys_of};
 ghost use Rattle.ml_region.specs.Stored.{page_at};
 
 use crate::limits::MOST_ITEMS;
@@ -42,5 +44,28 @@ pub(crate) fn move_below(pages: &mut [Page], from: usize, to: usize, prefix: &Bi
             j += 1;
         }
         left -= 1;
+    }
+}
+
+/// Moves all items of a page to another, each to its place in key order.
+pub(crate) fn pour(pages: &mut [Page], from: usize, to: usize)
+    requires from { from < length pages.old }
+    requires to { to < length pages.old }
+    requires apart { from ≢ to }
+    requires few { length (page_at pages.old to) + length (page_at pages.old from) ≤ MOST_ITEMS }
+    requires rising { IsRising (keys_of (page_at pages.old to)) }
+    requires from_rising { IsRising (keys_of (page_at pages.old from)) }
+    requires different { (key : List Bool) → Contains (keys_of (page_at pages.old from)) key
+        → Contains (keys_of (page_at pages.old to)) key → ⊥ }
+    ensures { IsPoured pages.old from to pages.new }
+{
+    'each: loop {
+        match pages[from].pop() {
+            Some(item) => {
+                let j = pages[to].first_from(&item.key);
+                pages[to].put(j, item);
+            }
+            None => return,
+        }
     }
 }

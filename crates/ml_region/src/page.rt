@@ -1,5 +1,5 @@
 //! The items of one region, and the searches among them.
-ghost use Rattle.std.specs.Prelude.{◌≡◌, ◌<◌, ◌≤◌, [], length, slice_index_or, Contains, IfOk, MatchOption};
+ghost use Rattle.std.specs.Prelude.{◌≡◌, ◌<◌, ◌≤◌, ◌∷◌, ◌++◌, [], length, slice_index_or, Contains, IfOk, MatchOption};
 ghost use Rattle.std.specs.List.{insert, remove};
 ghost use Rattle.ml_region.specs.Changes.{IsMarkedAt};
 ghost use Rattle.ml_region.specs.Prefixes.{IsRising, bits_at};
@@ -126,5 +126,12 @@ impl Page {
         ensures { self.new ≡ [] }
     {
         self.items.clear();
+    }
+
+    /// Takes the last item out, if there is one.
+    pub(crate) fn pop(&mut self) -> Option<Item>
+        ensures { MatchOption result ((length self.old ≡ 0) × (self.new ≡ self.old)) (λ item. self.old ≡ self.new ++ item ∷ []) }
+    {
+        self.items.pop()
     }
 }

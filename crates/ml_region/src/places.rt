@@ -1,6 +1,6 @@
 //! Places and slots in a directory.
 ghost use Rattle.std.specs.Prelude.{◌≡◌, ◌<◌, length};
-ghost use Rattle.ml_region.specs.Listing.{HasSlot, IsListing, prefix_at, slot_at};
+ghost use Rattle.ml_region.specs.Listing.{HasSlot, IsListing, IsSlotOfParent, prefix_at, slot_at};
 ghost use Rattle.ml_term.specs.Keys.{key_cmp};
 
 use crate::directory::{Directory, Slot};
@@ -50,4 +50,20 @@ pub(crate) fn place_of<D: Directory>(dir: &D, len: usize, slot: Slot) -> usize
         }
     }
     low
+}
+
+/// The slot of the parent of the prefix at a place that is not the first.
+pub(crate) fn parent_slot<D: Directory>(dir: &D, i: usize) -> Slot
+    requires listing { IsListing (D.listing dir.now).entries }
+    requires nested { 0 < i }
+    requires within { i < length (D.listing dir.now).entries }
+    ensures { IsSlotOfParent (D.listing dir.now).entries (prefix_at (D.listing dir.now).entries i) result }
+{
+    let Some(prefix) = dir.prefix_at(i) else {
+        unreachable!()
+    };
+    match dir.parent(prefix) {
+        Some(slot) => slot,
+        None => unreachable!(),
+    }
 }

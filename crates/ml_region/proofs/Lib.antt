@@ -19,3 +19,5 @@ pub mod CutSteps
 pub mod Merging
 pub mod Pouring
 pub mod MergeSteps
+pub mod RecutSteps
+pub mod OneItem

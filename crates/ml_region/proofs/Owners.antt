@@ -261,3 +261,11 @@ last_is lists key place i up last h same =
 pub some_length : (xs : List Bool) → xs ≢ [] → 0 < length xs
 some_length [] d = absurd (d refl)
 some_length (x ∷ xs) d = omega arith
+
+-- a prefix has one parent
+pub one_parent : (prefixes : List (List Bool)) (prefix : List Bool) (i j : ℕ) → IsRising prefixes → IsParent prefixes prefix i → IsParent prefixes prefix j → i ≡ j
+one_parent prefixes prefix i j up a b =
+    let long : length (bits_at prefixes i) ≡ length (bits_at prefixes j) =
+    omega (arith, a.longest j b.within b.begins b.shorter, b.longest i a.within a.begins a.shorter) in
+    let same : bits_at prefixes i ≡ bits_at prefixes j = sym a.begins ∙ ap (λ n. take n prefix) long ∙ b.begins in
+    one_place prefixes i j up a.within b.within same

@@ -57,3 +57,9 @@ pub record IsMerged (old : List Region) (i : ℕ) (new : List Region) : Type 0 w
   pub items : List Item
   pub all : IsPermutation (items_at old parent ++ items_at old i) items
   pub same : new ≡ remove (with_items old parent items) i
+
+-- a region went into its parent, and then the parent was cut at a prefix
+pub record IsRecut (old : List Region) (i : ℕ) (prefix : List Bool) (new : List Region) : Type 0 where
+  pub middle : List Region
+  pub merged : IsMerged old i middle
+  pub cut : IsCut middle merged.parent prefix new

@@ -11,12 +11,14 @@ mod cut;
 mod directory;
 mod item;
 mod kept;
+pub mod laws;
 mod limits;
 mod merge;
 mod moves;
 mod order;
 mod page;
 mod places;
+mod recut;
 mod regions;
 mod sorted_dir;
 #[cfg(test)]

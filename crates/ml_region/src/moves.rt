@@ -2,7 +2,7 @@
 ghost use Rattle.std.specs.Prelude.{◌≡◌, ◌≢◌, ◌+◌, ◌<◌, ◌≤◌, Bool, List, [], ◌++◌, length, slice_set, Contains};
 ghost use Rattle.std.specs.List.{remove};
 ghost use Rattle.ml_region.specs.Changes.{items_below, items_beside};
-ghost use Rattle.ml_region.specs.Moves.{IsMoved, IsPoured};
+ghost use Rattle.ml_region.specs.Moves.{IsMoved, IsParted, IsPoured};
 ghost use Rattle.ml_region.specs.Prefixes.{IsRising};
 ghost use Rattle.ml_region.specs.Regions.{keys_of};
 ghost use Rattle.ml_region.specs.Stored.{page_at};
@@ -68,4 +68,20 @@ pub(crate) fn pour(pages: &mut [Page], from: usize, to: usize)
             None => return,
         }
     }
+}
+
+/// Moves all items of a page to another, each to its place in key order, and those whose keys begin with a prefix back.
+pub(crate) fn pour_and_part(pages: &mut [Page], from: usize, to: usize, prefix: &Bits)
+    requires from { from < length pages.old }
+    requires to { to < length pages.old }
+    requires apart { from ≢ to }
+    requires few { length (page_at pages.old to) + length (page_at pages.old from) ≤ MOST_ITEMS }
+    requires rising { IsRising (keys_of (page_at pages.old to)) }
+    requires from_rising { IsRising (keys_of (page_at pages.old from)) }
+    requires different { (key : List Bool) → Contains (keys_of (page_at pages.old from)) key
+        → Contains (keys_of (page_at pages.old to)) key → ⊥ }
+    ensures { IsParted pages.old from to prefix.now.bits pages.new }
+{
+    pour(pages, from, to);
+    move_below(pages, to, from, prefix);
 }

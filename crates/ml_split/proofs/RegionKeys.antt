@@ -1,5 +1,5 @@
 -- The keys of regions that are split or meet: none begins another one, and all begin with one prefix.
-use Rattle.std.proofs.Common.{◌≡◌, ℕ, zero, suc, ◌-◌, ◌<◌, ◌≤◌, Bool, List, [], ◌∷◌, ◌++◌, length, refl, sym, ap, ◌∙◌, subst, inl, inr, arith, length-append}
+use Rattle.std.proofs.Common.{◌≡◌, ℕ, zero, suc, ◌-◌, ◌+◌, ◌<◌, ◌≤◌, Bool, List, [], ◌∷◌, ◌++◌, length, refl, sym, ap, ◌∙◌, subst, inl, inr, arith, length-append}
 use Rattle.std.specs.Prelude.{Option, Some, None}
 use Rattle.std.specs.Option.{ForSome}
 use Rattle.std.specs.List.{All}
@@ -8,7 +8,7 @@ use Rattle.std.proofs.lemmas.Bool.{cases_lt, cases_order}
 use Rattle.std.proofs.lemmas.List.{length-map, get_or_append_left, get_or-append_right, get_or-map, get_or_default}
 use Rattle.std.proofs.lemmas.List.Elements.{All-append, Contains-get_or}
 use Rattle.ml_bits.specs.BitList.{BitList, Begins}
-use Rattle.ml_bits.proofs.OrderLaws.{itself_cmp, begins_trans}
+use Rattle.ml_bits.proofs.OrderLaws.{begins_both, begins_shorter, begins_trans, itself_cmp}
 use Rattle.ml_term.specs.Keys.{key_cmp}
 use Rattle.ml_region.specs.Prefixes.{bits_at, IsRising, IsOwner, IsParent}
 use Rattle.ml_region.specs.Regions.{Region, IsWellPlaced, region_at, region_prefixes, keys_at, items_at, empty_region}
@@ -158,3 +158,18 @@ pub few_with : (regions : List Region) → IsWellPlaced regions → (i : ℕ) �
 few_with regions well i h None = omega (arith, well.few i h, length-map (items_at regions i) (λ (x : Item). x.key.bits))
 few_with regions well i h (Some key) =
     omega (arith, well.few i h, length-map (items_at regions i) (λ (x : Item). x.key.bits), length-append (keys_at regions i) (key.bits ∷ []))
+
+-- a region has one parent
+pub one_parent : (regions : List Region) → IsWellPlaced regions → (prefix : List Bool) (a b : ℕ) → IsParent (region_prefixes regions) prefix a → IsParent (region_prefixes regions) prefix b → a ≡ b
+one_parent regions well prefix a b first second =
+    let prefixes : List (List Bool) = region_prefixes regions in
+    let up : length (bits_at prefixes a) ≤ length (bits_at prefixes b) = second.longest a first.within first.begins first.shorter in
+    let down : length (bits_at prefixes b) ≤ length (bits_at prefixes a) = first.longest b second.within second.begins second.shorter in
+    rising_once prefixes well.rising a b first.within second.within
+    (begins_both (bits_at prefixes a) (bits_at prefixes b) (begins_shorter (bits_at prefixes a) (bits_at prefixes b) prefix first.begins second.begins up)
+    (begins_shorter (bits_at prefixes b) (bits_at prefixes a) prefix second.begins first.begins down))
+
+-- how many keys there are where a region meets its parent
+pub meeting_length : (regions : List Region) (i p : ℕ) → length (keys_at regions i ++ keys_at regions p) ≡ length (items_at regions i) + length (items_at regions p)
+meeting_length regions i p =
+    omega (arith, length-append (keys_at regions i) (keys_at regions p), length-map (items_at regions i) (λ (x : Item). x.key.bits), length-map (items_at regions p) (λ (x : Item). x.key.bits))

@@ -1,8 +1,10 @@
 -- Which keys are split where a region is split, and which region takes in a key.
-use Rattle.std.specs.Prelude.{ℕ, Bool, List, [], ◌∷◌, ◌++◌, Option, Some, None, ◌≡◌, ◌⊎◌}
+use Rattle.std.specs.Prelude.{ℕ, ◌<◌, ◌≤◌, length, Bool, List, [], ◌∷◌, ◌++◌, Option, Some, None, ◌≡◌, ◌⊎◌}
 use Rattle.ml_bits.specs.BitList.{BitList}
-use Rattle.ml_region.specs.Prefixes.{IsOwner}
-use Rattle.ml_region.specs.Regions.{Region, IsApart, region_prefixes}
+use Rattle.ml_region.specs.Changes.{IsMerged, IsRecut}
+use Rattle.ml_region.specs.Prefixes.{IsOwner, IsParent}
+use Rattle.ml_region.specs.Regions.{Region, IsApart, keys_at, region_at, region_prefixes}
+use Rattle.ml_split.specs.Splitting.{IsFair, IsSplit}
 
 -- some keys, and a further one if there is one
 abbrev pub keys_with : List (List Bool) → Option BitList → List (List Bool)
@@ -17,3 +19,11 @@ pub record IsNewTo (regions : List Region) (i : ℕ) (key : List Bool) : Type 0 
 -- one of two places
 abbrev pub IsOneOf : ℕ → ℕ → ℕ → Type 0
 IsOneOf place first second = (place ≡ first) ⊎ (place ≡ second)
+
+-- a region went into its parent; where over 24 items meet, they are split again at once by the rule
+pub data IsSettled (old : List Region) (i : ℕ) (new : List Region) : Type 0 where
+  goes_in : (parent : ℕ) → IsParent (region_prefixes old) (region_at old i).prefix parent → length (keys_at old i ++ keys_at old parent) ≤ 24
+      → IsMerged old i new → IsSettled old i new
+  splits_again : (parent : ℕ) (prefix : List Bool) → IsParent (region_prefixes old) (region_at old i).prefix parent → 24 < length (keys_at old i ++ keys_at old parent)
+      → IsSplit (keys_at old i ++ keys_at old parent) (region_at old parent).prefix prefix → IsFair (keys_at old i ++ keys_at old parent) (region_at old parent).prefix prefix
+      → IsRecut old i prefix new → IsSettled old i new

@@ -17,4 +17,5 @@ mod tests;
 
 pub(crate) use keys::Keys;
 pub use ml_bits::OutOfMemory;
+pub use region_settle::settle;
 pub use region_split::{split, split_prefix};

@@ -1,11 +1,11 @@
 -- An item is found at one place.
-use Rattle.std.proofs.Common.{◌≡◌, ℕ, ◌<◌, Bool, true, List, [], length, get_or, refl, sym, ap, subst, ◌∙◌, arith}
+use Rattle.std.proofs.Common.{◌≡◌, ℕ, ◌<◌, Bool, true, List, [], length, get_or, sym, ap, subst, ◌∙◌, arith}
 use Rattle.std.specs.Prelude.{Contains, Option}
 use Rattle.std.proofs.lemmas.List.{get_or_default}
 use Rattle.ml_key.proofs.Beginnings.{owner_holds}
 use Rattle.ml_term.specs.Patterns.{fits, may_hold}
 use Rattle.ml_region.specs.Prefixes.{bits_at, IsOwner}
-use Rattle.ml_region.specs.Regions.{Region, region_prefixes, items_at, keys_of, keys_at, IsFound, IsWellPlaced}
+use Rattle.ml_region.specs.Regions.{Region, region_prefixes, items_at, keys_at, HasKey, IsFound, IsWellPlaced}
 use Rattle.ml_region.specs.declared.item.Item.{Item}
 use Rattle.ml_region.proofs.Found.{key_of_item}
 use Rattle.ml_region.proofs.Owners.{one_owner, one_place}
@@ -44,3 +44,7 @@ one_item regions key x y placed f g =
 pub owner_may_hold : (regions : List Region) (pattern : List (Option (List Bool))) (key : List Bool) (i : ℕ) → IsOwner (region_prefixes regions) key i → fits pattern key ≡ true
     → may_hold pattern (bits_at (region_prefixes regions) i) ≡ true
 owner_may_hold regions pattern key i owner t = owner_holds pattern (bits_at (region_prefixes regions) i) key t owner.begins
+
+-- a key of which an item is found is there
+pub found_key_is_there : (regions : List Region) (key : List Bool) (x : Item) → IsFound regions key x → HasKey regions key
+found_key_is_there regions key x f = record { region = f.region; within = f.within; among = found_among regions key x f }

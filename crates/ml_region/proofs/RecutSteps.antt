@@ -1,5 +1,5 @@
 -- The steps of a recut: a merge whose free page serves a cut.
-use Rattle.std.proofs.Common.{◌≡◌, ◌≢◌, ◌⊎◌, inl, inr, ℕ, zero, suc, ◌+◌, ◌<◌, ◌≤◌, Bool, List, [], ◌∷◌, ◌++◌, length, get_or, set, take, refl, sym, ap, subst, ◌∙◌, arith, length-append}
+use Rattle.std.proofs.Common.{◌≡◌, ◌⊎◌, inl, inr, ℕ, ◌+◌, ◌<◌, ◌≤◌, Bool, List, [], ◌++◌, length, get_or, set, take, sym, ap, subst, ◌∙◌, arith}
 use Rattle.std.specs.Prelude.{Contains}
 use Rattle.std.specs.List.{insert, remove}
 use Rattle.std.proofs.Math.ListN.{length-set}
@@ -7,12 +7,11 @@ use Rattle.std.proofs.lemmas.List.{length-map, map-append, length-take-le, get_o
 use Rattle.std.proofs.lemmas.List.Edits.{length-insert, length-remove, get_or-insert_at, get_or-remove_below}
 use Rattle.std.proofs.lemmas.List.Elements.{Contains-append_left, Contains-append_right}
 use Rattle.std.proofs.lemmas.List.Sorted.{IsPermutation-map, Contains-permutation}
-use Rattle.ml_bits.specs.BitList.{Begins}
-use Rattle.ml_region.specs.Prefixes.{bits_at, IsParent, IsPlaceFor}
+use Rattle.ml_region.specs.Prefixes.{IsParent}
 use Rattle.ml_region.specs.Listing.{Entry, HasSlot, IsSlotOfParent, IsWithEntry, prefixes_of, slots_of, prefix_at, slot_at}
 use Rattle.ml_region.specs.Regions.{Region, region_prefixes, region_at, items_at, keys_of, keys_at}
 use Rattle.ml_region.specs.Changes.{IsMerged, IsCut, IsRecut, items_below, items_beside}
-use Rattle.ml_region.specs.Moves.{IsPoured, IsParted}
+use Rattle.ml_region.specs.Moves.{IsParted}
 use Rattle.ml_region.specs.Stored.{page_at, regions_of, IsStored}
 use Rattle.ml_region.specs.declared.item.Item.{Item}
 use Rattle.ml_region.proofs.Lists.{map_insert, map_remove}

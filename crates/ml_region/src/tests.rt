@@ -1,7 +1,7 @@
 //! A directory of a few prefixes, and regions of one item.
 ghost use Rattle.std.specs.Prelude.{◌≡◌, IfOk};
 
-use crate::{Directory, Id, Item, Regions, SortedDir};
+use crate::{Directory, Id, Item, MOST_ITEMS, Regions, SortedDir};
 use ml_bits::Bits;
 use ml_key::{Pattern, key_of, pattern_of};
 use ml_term::{Args, Decl, Kind, Name, Pred, Term, is_name, is_valid, nodes_up_to};
@@ -56,6 +56,37 @@ fn pattern(rt: &impl Abort, alloc: Global, t: Term) -> Result<Pattern, AllocErro
     Ok(pattern_of(&decl, &head))
 }
 
+/// Marks the item that has a key, if there is one.
+fn marked(regions: &mut Regions<SortedDir>, key: &Bits) {
+    if let Some(_) = regions.find(key) {
+        let id = Id {
+            place: 3,
+            change: 4,
+        };
+        regions.mark(key, false, id);
+    }
+}
+
+/// Merges a region, where the two have few items.
+fn merged(regions: &mut Regions<SortedDir>, i: usize) -> bool {
+    if i == 0 {
+        return false;
+    }
+    let len = regions.len();
+    if i >= len {
+        return false;
+    }
+    let Some(parent) = regions.parent_of(i) else {
+        return false;
+    };
+    let together = regions.count(parent) + regions.count(i);
+    if together > MOST_ITEMS {
+        return false;
+    }
+    regions.merge(i);
+    true
+}
+
 /// A prefix is taken in, owns the keys that begin with it, gets another name and goes.
 #[test]
 fn a_prefix_owns_what_it_begins(rt: HostRuntime) -> Result<(), Fail> {
@@ -85,6 +116,12 @@ fn an_item_comes_and_goes(rt: HostRuntime) -> Result<(), Fail> {
     regions.place(item);
     regions.make_room(key.len())?;
     assert!(rt; regions.find(&key).is_some_and(|found| found.committed));
+    marked(&mut regions, &key);
+    assert!(rt;
+        regions
+            .find(&key)
+            .is_some_and(|found| !found.committed && found.id.place == 3)
+    );
     let all = pattern(&rt, alloc, Term::Var(0))?;
     let one = pattern(&rt, alloc, Term::Int(1))?;
     let word = pattern(&rt, alloc, Term::Atom(named(&rt, alloc, b"a")?))?;
@@ -101,6 +138,8 @@ fn an_item_comes_and_goes(rt: HostRuntime) -> Result<(), Fail> {
     assert!(rt; own < regions.len());
     assert!(rt; regions.count(own) == 1 && regions.prefix(own).len() == 60);
     assert!(rt; regions.parent_of(own) == Some(0));
+    assert!(rt; merged(&mut regions, own));
+    assert!(rt; regions.len() == 1);
     assert!(rt; regions.take(&key).is_some());
     assert!(rt; regions.find(&key).is_none());
     Ok(())

@@ -1,5 +1,5 @@
 -- Where a thin region meets its parent and they are split again, the new prefix is that of no region.
-use Rattle.std.proofs.Common.{◌≡◌, ℕ, ◌+◌, ◌-◌, ◌<◌, ◌≤◌, Bool, List, [], ◌++◌, length, refl, sym, ap, ◌∙◌, subst, inl, inr, arith, length-append}
+use Rattle.std.proofs.Common.{◌≡◌, ℕ, ◌+◌, ◌-◌, ◌<◌, ◌≤◌, Bool, List, [], ◌++◌, length, take, refl, sym, ap, ◌∙◌, subst, inl, inr, arith, length-append}
 use Rattle.std.specs.List.{filter}
 use Rattle.std.proofs.lemmas.Bool.{cases_lt}
 use Rattle.std.proofs.lemmas.List.{length-map, get_or_append_left, get_or-append_right}
@@ -11,10 +11,10 @@ use Rattle.ml_key.proofs.Beginnings.{begun}
 use Rattle.ml_region.specs.Prefixes.{bits_at, IsOwner, IsParent}
 use Rattle.ml_region.specs.Regions.{Region, IsWellPlaced, region_at, region_prefixes, keys_at, items_at}
 use Rattle.ml_region.specs.declared.item.Item.{Item}
-use Rattle.ml_split.specs.Splitting.{count_under, IsFair}
+use Rattle.ml_split.specs.Splitting.{count_under, IsFair, IsSplit}
 use Rattle.ml_split.proofs.Counting.{none_pass}
-use Rattle.ml_split.proofs.Walking.{count_within}
-use Rattle.ml_split.proofs.RegionKeys.{rising_once, prefix_is, owned_at, parent_within}
+use Rattle.ml_split.proofs.Walking.{count_within, is_fair}
+use Rattle.ml_split.proofs.RegionKeys.{rising_once, prefix_is, owned_at, parent_within, meeting_apart, meeting_begins}
 
 long_as : (xs ys : List Bool) → xs ≡ ys → length xs ≡ length ys
 long_as xs ys e = ap length e
@@ -80,3 +80,23 @@ new_prefix regions well i p h parent thin many new fair q k e =
     let few : count_under new xs ≤ length xs = count_within new xs in
     let parts : count_under new (xs ++ ys) ≡ count_under new xs + count_under new ys = ap length (filter-append (begins new) xs ys) ∙ length-append (filter (begins new) xs) (filter (begins new) ys) in
     omega (arith, fair.at_least, parts, none, few, many, thin, length-map (items_at regions i) (λ (x : Item). x.key.bits))
+
+-- the split of a region and its parent is fair, however its prefix is read
+pub meeting_fair : (regions : List Region) → IsWellPlaced regions → (i p : ℕ) → i < length regions → IsParent (region_prefixes regions) (region_at regions i).prefix p
+    → 24 < length (keys_at regions i ++ keys_at regions p) → (prefix new same : List Bool) → prefix ≡ (region_at regions p).prefix → new ≡ same
+    → IsSplit (keys_at regions i ++ keys_at regions p) prefix new → IsFair (keys_at regions i ++ keys_at regions p) (region_at regions p).prefix same
+meeting_fair regions well i p h parent many prefix new same e f split =
+    let keys : List (List Bool) = keys_at regions i ++ keys_at regions p in
+    let there : IsSplit keys (region_at regions p).prefix same = subst (IsSplit keys (region_at regions p).prefix) f (subst (λ q. IsSplit keys q new) e split) in
+    is_fair keys (region_at regions p).prefix same (omega arith) (meeting_apart regions well i p h parent) (meeting_begins regions well i p h parent) there
+
+-- a key of the two is one of the region's or one of its parent's
+pub first_key : (regions : List Region) (i p a bits : ℕ) → a < length (items_at regions i)
+    → take bits (bits_at (keys_at regions i ++ keys_at regions p) a) ≡ take bits (bits_at (keys_at regions i) a)
+first_key regions i p a bits h =
+    ap (take bits) (get_or_append_left (keys_at regions i) (keys_at regions p) [] a (omega (arith, h, length-map (items_at regions i) (λ (x : Item). x.key.bits))))
+
+pub second_key : (regions : List Region) (i p a own bits : ℕ) → own ≡ length (items_at regions i) → own ≤ a
+    → take bits (bits_at (keys_at regions i ++ keys_at regions p) a) ≡ take bits (bits_at (keys_at regions p) (a - own))
+second_key regions i p a own bits e h =
+    ap (take bits) (get_or-append_right (keys_at regions i) (keys_at regions p) own a [] (length-map (items_at regions i) (λ (x : Item). x.key.bits) ∙ sym e) h)

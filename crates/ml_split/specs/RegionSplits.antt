@@ -1,8 +1,10 @@
 -- Which keys are split where a region is split, and which region takes in a key.
-use Rattle.std.specs.Prelude.{ℕ, ◌<◌, Bool, List, [], ◌∷◌, ◌++◌, length, Option, Some, None, Contains}
-use Rattle.ml_bits.specs.BitList.{BitList, Begins}
-use Rattle.ml_region.specs.Prefixes.{IsOwner}
-use Rattle.ml_region.specs.Regions.{Region, keys_at, region_prefixes}
+use Rattle.std.specs.Prelude.{ℕ, ◌<◌, ◌≤◌, length, Bool, List, [], ◌∷◌, ◌++◌, Option, Some, None, ◌≡◌, ◌⊎◌}
+use Rattle.ml_bits.specs.BitList.{BitList}
+use Rattle.ml_region.specs.Changes.{IsCut, IsMerged, IsRecut}
+use Rattle.ml_region.specs.Prefixes.{IsOwner, IsParent}
+use Rattle.ml_region.specs.Regions.{Region, IsApart, keys_at, region_at, region_prefixes}
+use Rattle.ml_split.specs.Splitting.{IsFair, IsSplit}
 
 -- some keys, and a further one if there is one
 abbrev pub keys_with : List (List Bool) → Option BitList → List (List Bool)
@@ -12,4 +14,23 @@ keys_with keys (Some key) = keys ++ key.bits ∷ []
 -- a key that a region may take in: the region owns it, and no item's key begins it or begins with it
 pub record IsNewTo (regions : List Region) (i : ℕ) (key : List Bool) : Type 0 where
   pub owner : IsOwner (region_prefixes regions) key i
-  pub apart : (k : ℕ) (other : List Bool) → k < length regions → Contains (keys_at regions k) other → (Begins other key → ⊥) × (Begins key other → ⊥)
+  pub apart : IsApart regions key
+
+-- one of two places
+abbrev pub IsOneOf : ℕ → ℕ → ℕ → Type 0
+IsOneOf place first second = (place ≡ first) ⊎ (place ≡ second)
+
+-- a region went into its parent; where over 24 items meet, they are split again at once by the rule
+pub data IsSettled (old : List Region) (i : ℕ) (new : List Region) : Type 0 where
+  goes_in : (parent : ℕ) → IsParent (region_prefixes old) (region_at old i).prefix parent → length (keys_at old i ++ keys_at old parent) ≤ 24
+      → IsMerged old i new → IsSettled old i new
+  splits_again : (parent : ℕ) (prefix : List Bool) → IsParent (region_prefixes old) (region_at old i).prefix parent → 24 < length (keys_at old i ++ keys_at old parent)
+      → IsSplit (keys_at old i ++ keys_at old parent) (region_at old parent).prefix prefix → IsFair (keys_at old i ++ keys_at old parent) (region_at old parent).prefix prefix
+      → IsRecut old i prefix new → IsSettled old i new
+
+-- a region was cut at the prefix of the rule for its keys and a further key, which is none of an item yet
+pub record IsSplitFor (old : List Region) (i : ℕ) (key : List Bool) (new : List Region) : Type 0 where
+  pub prefix : List Bool
+  pub split : IsSplit (keys_at old i ++ key ∷ []) (region_at old i).prefix prefix
+  pub fair : IsFair (keys_at old i ++ key ∷ []) (region_at old i).prefix prefix
+  pub cut : IsCut old i prefix new

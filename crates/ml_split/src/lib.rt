@@ -4,15 +4,20 @@
 //! What carries it: a prefix that begins more than two thirds of the keys lies on the rule's way.
 #![tactic(auto)]
 
+mod further_key;
 mod keys;
 pub mod laws;
+mod meeting_keys;
 mod place;
 mod region_keys;
+mod region_settle;
+mod region_split;
 pub mod rows;
-mod split;
 #[cfg(test)]
 mod tests;
 
+pub use further_key::split_for;
 pub(crate) use keys::Keys;
 pub use ml_bits::OutOfMemory;
-pub use split::split_prefix;
+pub use region_settle::settle;
+pub use region_split::{split, split_prefix};

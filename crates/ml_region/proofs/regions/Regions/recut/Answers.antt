@@ -1,23 +1,19 @@
-use Rattle.std.proofs.Common.{◌≡◌, ◌≢◌, ◌⊎◌, inl, inr, ℕ, ◌+◌, ◌<◌, ◌≤◌, Bool, List, [], ◌∷◌, ◌++◌, length, get_or, set, take, drop, sym, ap, ◌∙◌, subst, arith, length-append}
+use Rattle.std.proofs.Common.{◌≡◌, ◌⊎◌, inl, inr, ℕ, ◌+◌, ◌<◌, ◌≤◌, Bool, List, [], ◌++◌, length, take, drop, sym, ap, ◌∙◌, subst, arith}
 use Rattle.std.specs.Prelude.{Contains, vec_capacity}
-use Rattle.std.specs.List.{insert, remove}
-use Rattle.std.proofs.Math.ListN.{length-set}
+use Rattle.std.specs.List.{remove}
 use Rattle.std.proofs.lemmas.List.{get_or_read}
-use Rattle.std.proofs.lemmas.Bool.{cases_lt}
-use Rattle.std.proofs.lemmas.List.{get_or_past}
 use Rattle.std.proofs.lemmas.List.Elements.{Contains-get_or}
 use Rattle.ml_region.specs.Changes.{IsRecut}
-use Rattle.ml_region.specs.Moves.{IsPoured, IsParted}
+use Rattle.ml_region.specs.Moves.{IsParted}
 use Rattle.ml_region.specs.Prefixes.{bits_at, IsRising, IsParent}
-use Rattle.ml_region.specs.Listing.{Entry, IsNewPrefix, IsSlotOfParent, IsWithEntry, IsPrefixOfSlot, HasSlot, prefixes_of, prefix_at, slot_at}
-use Rattle.ml_region.specs.Regions.{Region, RegionList, empty_region, items_at, keys_of, keys_at, region_at, region_prefixes}
+use Rattle.ml_region.specs.Listing.{Entry, IsSlotOfParent, IsWithEntry, IsPrefixOfSlot, HasSlot, prefix_at, slot_at}
+use Rattle.ml_region.specs.Regions.{Region, RegionList, items_at, keys_of, keys_at, region_at, region_prefixes}
 use Rattle.ml_region.specs.Stored.{page_at, regions_of, IsStored}
 use Rattle.ml_region.specs.declared.item.Item.{Item}
 use Rattle.ml_region.proofs.Elements.{whole_back}
 use Rattle.ml_region.proofs.CutSteps.{own_prefix}
 use Rattle.ml_region.proofs.Found.{items_of_page, prefix_of_entry, key_of_item, page_rising}
 use Rattle.ml_region.proofs.MergeSteps.{parent_is, parent_in_front, parent_within, own_items, parent_items, keys_differ}
-use Rattle.ml_region.proofs.Owners.{one_parent}
 use Rattle.ml_region.proofs.RecutSteps.{recut_end, has_new_slot, same_parent, parted_length}
 use Rattle.ml_region.proofs.Standing.{keys_length}
 use Rattle.ml_region.proofs.StoredRegions.{regions_length, slot_within, slots_apart, listing_of}

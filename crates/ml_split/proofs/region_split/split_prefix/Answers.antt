@@ -8,7 +8,7 @@ use Rattle.ml_split.specs.Splitting.{IsFair, IsSplit}
 use Rattle.ml_split.specs.RegionSplits.{keys_with}
 use Rattle.ml_split.proofs.Walking.{is_fair}
 use Rattle.ml_split.proofs.RegionKeys.{further_apart, further_begins}
-use Rattle.ml_split.proofs.split.split_prefix.Goals as goal
+use Rattle.ml_split.proofs.region_split.split_prefix.Goals as goal
 
 pub split_place-place-requires-clause-apart : goal.split_place-place-requires-clause-apart
 split_place-place-requires-clause-apart g c =

@@ -1,0 +1,2 @@
+pub mod PlainList
+pub mod Files

@@ -1,0 +1,13 @@
+//! The file of one declaration: its items under their keys, in nested regions.
+//! It stands on nested regions (`ml_region`), keys (`ml_key`), terms (`ml_term`) and the lists of a store (`ml_search`). The layer above sees a file as its
+//! regions, and its items as one plain list, which `specs/PlainList.antt` defines. What carries it: an item's key tells it from all others, and no region
+//! has over 24 items between two calls.
+#![tactic(auto)]
+
+mod file;
+pub mod laws;
+#[cfg(test)]
+mod tests;
+
+pub use file::{BangFile, Took};
+pub use ml_bits::OutOfMemory;

@@ -1,3 +1,5 @@
 pub mod Orders
 pub mod Held
 pub mod Taken
+pub mod Grown
+pub mod Coming

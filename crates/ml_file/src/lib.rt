@@ -6,8 +6,10 @@
 
 mod file;
 pub mod laws;
+mod put;
 #[cfg(test)]
 mod tests;
 
 pub use file::{BangFile, Took};
 pub use ml_bits::OutOfMemory;
+pub use put::{MOST_ITEMS, Put};

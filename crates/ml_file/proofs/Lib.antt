@@ -3,3 +3,4 @@ pub mod Held
 pub mod Taken
 pub mod Grown
 pub mod Coming
+pub mod Keyable

@@ -5,6 +5,7 @@
 #![tactic(auto)]
 
 mod file;
+mod insert;
 pub mod laws;
 mod put;
 #[cfg(test)]

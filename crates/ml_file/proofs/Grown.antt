@@ -87,7 +87,7 @@ from_both p items x there =
     (IsPermutation-sym items (items_below p items ++ items_beside p items)
     (IsPermutation-filter_both (λ (y : Item). begins p y.key.bits) (λ (y : Item). not (begins p y.key.bits)) (λ _. refl) items)) there
 
-place_within : (old : List Region) (i : ℕ) (p : List Bool) (new : List Region) (cut : IsCut old i p new) (items : List Item) → cut.place ≤ length (with_items old i items)
+pub place_within : (old : List Region) (i : ℕ) (p : List Bool) (new : List Region) (cut : IsCut old i p new) (items : List Item) → cut.place ≤ length (with_items old i items)
 place_within old i p new cut items =
     omega (arith, cut.fits.within, with_items_length old i items, length-map old (λ (r : Region). r.prefix))
 
@@ -178,7 +178,7 @@ put_few old item new put few room k l =
 -- ---- where a region is cut for a key
 
 -- what stands at a place where one more region was put
-located : (regions : List Region) (c : ℕ) (r : Region) (k : ℕ) → c ≤ length regions → k < length (insert regions c r)
+pub located : (regions : List Region) (c : ℕ) (r : Region) (k : ℕ) → c ≤ length regions → k < length (insert regions c r)
     → (region_at (insert regions c r) k ≡ r) ⊎ ((m : ℕ) × (m < length regions) × (region_at (insert regions c r) k ≡ region_at regions m))
 located regions c r k h l =
     let long : length (insert regions c r) ≡ length regions + 1 = length-insert regions c r h in
@@ -210,7 +210,7 @@ still_there regions c r k h l =
           ]
     ]
 
-both_sizes : (p : List Bool) (items : List Item) → length (items_below p items) + length (items_beside p items) ≡ length items
+pub both_sizes : (p : List Bool) (items : List Item) → length (items_below p items) + length (items_beside p items) ≡ length items
 both_sizes p items = length-filter_both (λ (y : Item). begins p y.key.bits) (λ (y : Item). not (begins p y.key.bits)) (λ _. refl) items
 
 -- a cut region has no more items than before, and so the new one
@@ -240,7 +240,7 @@ same_sizes true x y xs ys e = omega arith
 same_sizes false x y xs ys e = e
 
 -- as many items as keys begin with a prefix
-below_count : (p : List Bool) (items : List Item) → count_under p (map (λ (y : Item). y.key.bits) items) ≡ length (items_below p items)
+pub below_count : (p : List Bool) (items : List Item) → count_under p (map (λ (y : Item). y.key.bits) items) ≡ length (items_below p items)
 below_count p [] = refl
 below_count p (x ∷ items) =
     same_sizes (begins p x.key.bits) x.key.bits x (filter (begins p) (map (λ (y : Item). y.key.bits) items)) (items_below p items) (below_count p items)

@@ -4,3 +4,5 @@ pub mod Taken
 pub mod Grown
 pub mod Coming
 pub mod Keyable
+pub mod Settling
+pub mod SettleSteps

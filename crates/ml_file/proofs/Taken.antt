@@ -71,7 +71,7 @@ removed_from old key item new well taken =
 
 -- ---- what the file keeps
 
-all_of : (P : Item → Type 0) (xs ys : List Item) → ((x : Item) → Contains ys x → Contains xs x) → All P xs → All P ys
+pub all_of : (P : Item → Type 0) (xs ys : List Item) → ((x : Item) → Contains ys x → Contains xs x) → All P xs → All P ys
 all_of P xs ys part all k d l = All-contains P xs (get_or ys k d) all (part (get_or ys k d) (Contains-get_or ys k d l))
 
 -- a file with fewer items is a file

@@ -8,9 +8,11 @@ mod file;
 mod insert;
 pub mod laws;
 mod put;
+mod settle_all;
 #[cfg(test)]
 mod tests;
 
 pub use file::{BangFile, Took};
 pub use ml_bits::OutOfMemory;
 pub use put::{MOST_ITEMS, Put};
+pub use settle_all::FEWEST_ITEMS;

@@ -1,3 +1,4 @@
 pub mod Orders
 pub mod Held
 pub mod Taken
+pub mod Marked

@@ -1,2 +1,3 @@
 pub mod PlainList
 pub mod Files
+pub mod Marking

@@ -6,6 +6,7 @@
 
 mod file;
 pub mod laws;
+mod mark;
 #[cfg(test)]
 mod tests;
 

@@ -1,3 +1,4 @@
 pub mod PlainList
 pub mod Files
 pub mod Marking
+pub mod Hits

@@ -5,8 +5,10 @@
 #![tactic(auto)]
 
 mod file;
+mod hits;
 pub mod laws;
 mod mark;
+mod order;
 #[cfg(test)]
 mod tests;
 

@@ -6,3 +6,6 @@ pub mod ItemOrder
 pub mod StoredHeads
 pub mod Differing
 pub mod Meeting
+pub mod Grown
+pub mod Coming
+pub mod Keyable

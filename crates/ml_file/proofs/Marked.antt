@@ -1,5 +1,5 @@
 -- What the items of a file are where one of them was marked.
-use Rattle.std.proofs.Common.{◌≡◌, ◌⊎◌, inl, inr, ℕ, ◌<◌, ◌≤◌, Bool, List, length, get_or, set, sym, ap, ◌∙◌, subst, arith}
+use Rattle.std.proofs.Common.{◌≡◌, ◌⊎◌, inl, inr, ℕ, ◌<◌, ◌≤◌, Bool, List, length, get_or, set, sym, ap, ◌∙◌, subst, arith, ◌^◌}
 use Rattle.std.specs.Prelude.{Contains, IsTrue, ◌≢◌}
 use Rattle.std.specs.List.{All}
 use Rattle.std.proofs.Math.ListN.{length-set}
@@ -176,5 +176,6 @@ file_marked decl old key committed id new room well m file =
       allowed = all_marked old key committed id new mark (λ (x : Item). IsTrue (is_allowed decl (seen x.term))) (λ h. h) file.allowed;
       keyed = all_marked old key committed id new mark (λ (x : Item). x.key.bits ≡ item_key decl.kind decl.keys (seen x.term) x.number) (λ h. h) file.keyed;
       numbers = λ kind. numbers_marked old key committed id new mark (file.numbers kind);
+      fit = all_marked old key committed id new mark (λ (x : Item). x.number < 2 ^ 64) (λ h. h) file.fit;
       roomy = all_marked old key committed id new mark (λ (x : Item). length x.key.bits ≤ room) (λ h. h) file.roomy;
     }

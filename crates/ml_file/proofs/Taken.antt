@@ -1,5 +1,5 @@
 -- What is left where an item was taken out.
-use Rattle.std.proofs.Common.{◌≡◌, inl, inr, ℕ, ◌+◌, ◌<◌, ◌≤◌, Bool, List, length, get_or, sym, ap, ◌∙◌, subst, arith}
+use Rattle.std.proofs.Common.{◌≡◌, inl, inr, ℕ, ◌^◌, ◌+◌, ◌<◌, ◌≤◌, Bool, List, length, get_or, sym, ap, ◌∙◌, subst, arith}
 use Rattle.std.specs.Prelude.{Contains, IsTrue}
 use Rattle.std.specs.List.{All, remove}
 use Rattle.std.proofs.lemmas.Bool.{cases_eq}
@@ -83,6 +83,7 @@ file_less decl old new room file part few =
       allowed = all_of (λ (x : Item). IsTrue (is_allowed decl (seen x.term))) (items_in old) (items_in new) part file.allowed;
       keyed = all_of (λ (x : Item). x.key.bits ≡ item_key decl.kind decl.keys (seen x.term) x.number) (items_in old) (items_in new) part file.keyed;
       numbers = λ kind x y a b e. file.numbers kind x y (part x a) (part y b) e;
+      fit = all_of (λ (x : Item). x.number < 2 ^ 64) (items_in old) (items_in new) part file.fit;
       roomy = all_of (λ (x : Item). length x.key.bits ≤ room) (items_in old) (items_in new) part file.roomy;
     }
 

@@ -2,3 +2,5 @@ pub mod PlainList
 pub mod Files
 pub mod Marking
 pub mod Hits
+pub mod Adding
+pub mod Inserting

@@ -26,6 +26,7 @@ pub struct BangFile {
     pub(crate) decl: Decl,
     pub(crate) regions: Regions<SortedDir>,
     pub(crate) added: u32,
+    pub(crate) alloc: Global,
 }
 
 impl Model for BangFile {
@@ -53,6 +54,7 @@ impl BangFile {
             decl,
             regions,
             added: 0,
+            alloc,
         })
     }
 

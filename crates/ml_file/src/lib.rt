@@ -6,11 +6,14 @@
 
 mod file;
 mod hits;
+mod insert;
 pub mod laws;
 mod mark;
 mod order;
+mod put;
 #[cfg(test)]
 mod tests;
 
 pub use file::{BangFile, Took};
 pub use ml_bits::OutOfMemory;
+pub use put::{MOST_ITEMS, Put};

@@ -2,4 +2,5 @@ pub mod Counting
 pub mod Walking
 pub mod Parting
 pub mod RegionKeys
+pub mod Further
 pub mod Meeting

@@ -257,3 +257,7 @@ stepped keys prefix place bits fork next count first second p q more apart all w
     step_from keys prefix place bits fork next count more apart all way f
     (subst (λ x. count ≡ count_under (half (take fork x) (fuller_half (take fork x) keys)) keys) q e) inside
     (subst (λ x. 0 < count → begins (half (take fork x) (fuller_half (take fork x) keys)) (get_or keys next []) ≡ true) q there)
+
+-- a key has as many bits of the guide as the two have in common
+pub common_taken : (guide key : List Bool) (c n : ℕ) → IsCommonLength guide key c → n ≤ c → take n key ≡ take n guide
+common_taken guide key c n h l = sym (take-take n c key l) ∙ ap (take n) (sym h.same) ∙ take-take n c guide l

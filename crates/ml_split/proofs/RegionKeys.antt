@@ -2,18 +2,20 @@
 use Rattle.std.proofs.Common.{◌≡◌, ℕ, zero, suc, ◌-◌, ◌+◌, ◌<◌, ◌≤◌, Bool, List, [], ◌∷◌, ◌++◌, length, refl, sym, ap, ◌∙◌, subst, inl, inr, arith, length-append}
 use Rattle.std.specs.Prelude.{Option, Some, None}
 use Rattle.std.specs.Option.{ForSome}
-use Rattle.std.specs.List.{All}
+use Rattle.std.specs.List.{All, filter}
 use Rattle.std.specs.declared.cmp.Ordering.TheVariants.{Less, Equal}
 use Rattle.std.proofs.lemmas.Bool.{cases_lt, cases_order}
-use Rattle.std.proofs.lemmas.List.{length-map, get_or_append_left, get_or-append_right, get_or-map, get_or_default}
-use Rattle.std.proofs.lemmas.List.Elements.{All-append, Contains-get_or}
+use Rattle.std.proofs.lemmas.List.{length-map, get_or_push, get_or_append_left, get_or-append_right, get_or-map, get_or_default}
+use Rattle.std.proofs.lemmas.List.Elements.{All-append, Contains-get_or, filter-append}
 use Rattle.ml_bits.specs.BitList.{BitList, Begins}
 use Rattle.ml_bits.proofs.OrderLaws.{begins_both, begins_shorter, begins_trans, itself_cmp}
 use Rattle.ml_term.specs.Keys.{key_cmp}
 use Rattle.ml_region.specs.Prefixes.{bits_at, IsRising, IsOwner, IsParent}
 use Rattle.ml_region.specs.Regions.{Region, IsWellPlaced, region_at, region_prefixes, keys_at, items_at, empty_region}
 use Rattle.ml_region.specs.declared.item.Item.{Item}
-use Rattle.ml_split.specs.Splitting.{AreApart}
+use Rattle.ml_term.specs.Patterns.{begins}
+use Rattle.ml_split.specs.Splitting.{AreApart, IsFair, count_under}
+use Rattle.ml_split.proofs.Walking.{count_within}
 use Rattle.ml_split.specs.RegionSplits.{keys_with, IsNewTo}
 
 -- ---- lists of keys
@@ -173,3 +175,16 @@ one_parent regions well prefix a b first second =
 pub meeting_length : (regions : List Region) (i p : ℕ) → length (keys_at regions i ++ keys_at regions p) ≡ length (items_at regions i) + length (items_at regions p)
 meeting_length regions i p =
     omega (arith, length-append (keys_at regions i) (keys_at regions p), length-map (items_at regions i) (λ (x : Item). x.key.bits), length-map (items_at regions p) (λ (x : Item). x.key.bits))
+
+-- where a fair split's prefix begins at least a third of 25 keys or more, it begins another key than the last
+pub others_under : (keys : List (List Bool)) (key old new : List Bool) → 24 ≤ length keys → IsFair (keys ++ key ∷ []) old new → 0 < count_under new keys
+others_under keys key old new many fair =
+    let parts : count_under new (keys ++ key ∷ []) ≡ count_under new keys + count_under new (key ∷ []) =
+    ap length (filter-append (begins new) keys (key ∷ [])) ∙ length-append (filter (begins new) keys) (filter (begins new) (key ∷ [])) in
+    omega (arith, parts, fair.at_least, length-append keys (key ∷ []), count_within new (key ∷ []))
+
+-- the last of some keys
+pub last_key : (keys : List (List Bool)) (key : List Bool) (a own : ℕ) → own ≡ length keys → own ≤ a → a < length (keys ++ key ∷ []) → bits_at (keys ++ key ∷ []) a ≡ key
+last_key keys key a own e h l =
+    let same : a ≡ length keys = omega (arith, length-append keys (key ∷ [])) in
+    get_or_push keys key [] a (sym same)

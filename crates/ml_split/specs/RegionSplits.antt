@@ -1,7 +1,7 @@
 -- Which keys are split where a region is split, and which region takes in a key.
 use Rattle.std.specs.Prelude.{ℕ, ◌<◌, ◌≤◌, length, Bool, List, [], ◌∷◌, ◌++◌, Option, Some, None, ◌≡◌, ◌⊎◌}
 use Rattle.ml_bits.specs.BitList.{BitList}
-use Rattle.ml_region.specs.Changes.{IsMerged, IsRecut}
+use Rattle.ml_region.specs.Changes.{IsCut, IsMerged, IsRecut}
 use Rattle.ml_region.specs.Prefixes.{IsOwner, IsParent}
 use Rattle.ml_region.specs.Regions.{Region, IsApart, keys_at, region_at, region_prefixes}
 use Rattle.ml_split.specs.Splitting.{IsFair, IsSplit}
@@ -27,3 +27,10 @@ pub data IsSettled (old : List Region) (i : ℕ) (new : List Region) : Type 0 wh
   splits_again : (parent : ℕ) (prefix : List Bool) → IsParent (region_prefixes old) (region_at old i).prefix parent → 24 < length (keys_at old i ++ keys_at old parent)
       → IsSplit (keys_at old i ++ keys_at old parent) (region_at old parent).prefix prefix → IsFair (keys_at old i ++ keys_at old parent) (region_at old parent).prefix prefix
       → IsRecut old i prefix new → IsSettled old i new
+
+-- a region was cut at the prefix of the rule for its keys and a further key, which is none of an item yet
+pub record IsSplitFor (old : List Region) (i : ℕ) (key : List Bool) (new : List Region) : Type 0 where
+  pub prefix : List Bool
+  pub split : IsSplit (keys_at old i ++ key ∷ []) (region_at old i).prefix prefix
+  pub fair : IsFair (keys_at old i ++ key ∷ []) (region_at old i).prefix prefix
+  pub cut : IsCut old i prefix new

@@ -4,6 +4,7 @@
 //! What carries it: a prefix that begins more than two thirds of the keys lies on the rule's way.
 #![tactic(auto)]
 
+mod further_key;
 mod keys;
 pub mod laws;
 mod meeting_keys;
@@ -15,6 +16,7 @@ pub mod rows;
 #[cfg(test)]
 mod tests;
 
+pub use further_key::split_for;
 pub(crate) use keys::Keys;
 pub use ml_bits::OutOfMemory;
 pub use region_settle::settle;

@@ -1,7 +1,7 @@
-use Rattle.std.proofs.Common.{◌≡◌, ◌<◌, ◌≤◌, ◌++◌, length, take, inl, inr, sym, subst, arith}
+use Rattle.std.proofs.Common.{◌<◌, ◌≤◌, ◌++◌, length, take, inl, inr, sym, subst, arith}
 use Rattle.ml_region.specs.Prefixes.{bits_at, IsParent}
 use Rattle.ml_region.specs.Regions.{keys_at, region_at, region_prefixes}
-use Rattle.ml_split.specs.RegionSplits.{IsSettled, goes_in, splits_again}
+use Rattle.ml_split.specs.RegionSplits.{goes_in, splits_again}
 use Rattle.ml_split.proofs.RegionKeys.{meeting_length, one_parent}
 use Rattle.ml_split.proofs.region_settle.settle.Goals as goal
 

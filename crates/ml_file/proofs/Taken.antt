@@ -1,5 +1,5 @@
 -- What is left where an item was taken out.
-use Rattle.std.proofs.Common.{◌≡◌, inl, inr, ℕ, ◌+◌, ◌<◌, ◌≤◌, Bool, List, length, get_or, sym, ap, ◌∙◌, subst, arith}
+use Rattle.std.proofs.Common.{◌≡◌, inl, inr, ℕ, ◌^◌, ◌+◌, ◌<◌, ◌≤◌, Bool, List, length, get_or, sym, ap, ◌∙◌, subst, arith}
 use Rattle.std.specs.Prelude.{Contains, IsTrue}
 use Rattle.std.specs.List.{All, remove}
 use Rattle.std.proofs.lemmas.Bool.{cases_eq}
@@ -71,7 +71,7 @@ removed_from old key item new well taken =
 
 -- ---- what the file keeps
 
-all_of : (P : Item → Type 0) (xs ys : List Item) → ((x : Item) → Contains ys x → Contains xs x) → All P xs → All P ys
+pub all_of : (P : Item → Type 0) (xs ys : List Item) → ((x : Item) → Contains ys x → Contains xs x) → All P xs → All P ys
 all_of P xs ys part all k d l = All-contains P xs (get_or ys k d) all (part (get_or ys k d) (Contains-get_or ys k d l))
 
 -- a file with fewer items is a file
@@ -83,6 +83,7 @@ file_less decl old new room file part few =
       allowed = all_of (λ (x : Item). IsTrue (is_allowed decl (seen x.term))) (items_in old) (items_in new) part file.allowed;
       keyed = all_of (λ (x : Item). x.key.bits ≡ item_key decl.kind decl.keys (seen x.term) x.number) (items_in old) (items_in new) part file.keyed;
       numbers = λ kind x y a b e. file.numbers kind x y (part x a) (part y b) e;
+      fit = all_of (λ (x : Item). x.number < 2 ^ 64) (items_in old) (items_in new) part file.fit;
       roomy = all_of (λ (x : Item). length x.key.bits ≤ room) (items_in old) (items_in new) part file.roomy;
     }
 

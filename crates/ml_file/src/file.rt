@@ -23,9 +23,10 @@ pub enum Took {
 /// an item. A region is named by its place in the order of prefixes, from 0.
 #[derive(Drop)]
 pub struct BangFile {
-    decl: Decl,
-    regions: Regions<SortedDir>,
-    added: u32,
+    pub(crate) decl: Decl,
+    pub(crate) regions: Regions<SortedDir>,
+    pub(crate) added: u32,
+    pub(crate) alloc: Global,
 }
 
 impl Model for BangFile {
@@ -53,6 +54,7 @@ impl BangFile {
             decl,
             regions,
             added: 0,
+            alloc,
         })
     }
 

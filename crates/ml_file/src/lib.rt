@@ -5,9 +5,17 @@
 #![tactic(auto)]
 
 mod file;
+mod hits;
+mod insert;
 pub mod laws;
+mod mark;
+mod order;
+mod put;
+mod settle_all;
 #[cfg(test)]
 mod tests;
 
 pub use file::{BangFile, Took};
 pub use ml_bits::OutOfMemory;
+pub use put::{MOST_ITEMS, Put};
+pub use settle_all::FEWEST_ITEMS;

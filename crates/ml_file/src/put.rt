@@ -1,0 +1,66 @@
+//! An item comes to a file.
+ghost use Rattle.std.specs.Prelude.{◌≡◌, ℕ, ◌<◌, ◌≤◌, length, IfOk, OnErr, OnOk};
+ghost use Rattle.ml_file.specs.Adding.{HasGrown, IsPutAs, MayCome};
+ghost use Rattle.ml_file.specs.Files.{items_in};
+ghost use Rattle.ml_file.specs.PlainList.{IsWith};
+ghost use Rattle.ml_region.specs.Regions.{IsApart, items_at};
+
+use crate::OutOfMemory;
+use crate::file::BangFile;
+use ml_region::{Directory, Item, Regions};
+use ml_split::split_for;
+
+/// How many items a region has at most between two calls.
+pub const MOST_ITEMS: usize = 24;
+
+/// What a file did with an item that came.
+#[derive(Clone, Copy, Debug, PartialEq, Eq)]
+pub enum Put {
+    /// The file has the item.
+    Added,
+    /// An item had its key already, and stays.
+    Present,
+}
+
+/// Puts an item into the region that owns its key, which is split first if it is full. After an error the regions are as they were.
+fn grow<D: Directory>(regions: &mut Regions<D>, item: Item) -> Result<(), OutOfMemory>
+    requires apart { IsApart regions.old.regions item.key.bits }
+    requires few { (k : ℕ) → k < length regions.old.regions → length (items_at regions.old.regions k) ≤ 24 }
+    ensures grown { OnOk result (HasGrown regions.old.regions item regions.new.regions) }
+    ensures more { OnOk result (IsWith (items_in regions.old.regions) item (items_in regions.new.regions)) }
+    ensures few { OnOk result ((k : ℕ) → k < length regions.new.regions → length (items_at regions.new.regions k) ≤ 24) }
+    ensures err { OnErr result (regions.new.regions ≡ regions.old.regions) }
+    ensures room { regions.new.room ≡ regions.old.room }
+{
+    let _regions = regions.len();
+    let owner = regions.owner_of(&item.key);
+    if regions.count(owner) < MOST_ITEMS {
+        regions.place(item);
+        return Ok(());
+    }
+    split_for(regions, owner, &item.key)?;
+    let _regions = regions.len();
+    regions.place(item);
+    Ok(())
+}
+
+impl BangFile {
+    /// Puts an item into the file, if no item has its key. Where its region has 24 items, it is first split. After an error only the room of prefixes may
+    /// have grown.
+    pub fn put(&mut self, item: Item) -> Result<Put, OutOfMemory>
+        requires { MayCome self.old.decl self.old.regions item }
+        ensures ok { IfOk result (λ put. IsPutAs put self.old.regions item self.new.regions) }
+        ensures err { OnErr result (self.new.regions ≡ self.old.regions) }
+        ensures decl { self.new.decl ≡ self.old.decl }
+        ensures added { self.new.added ≡ self.old.added }
+        ensures room { self.old.room ≤ self.new.room }
+    {
+        let _number = item.number;
+        if let Some(_held) = self.regions.find(&item.key) {
+            return Ok(Put::Present);
+        }
+        self.regions.make_room(item.key.len())?;
+        grow(&mut self.regions, item)?;
+        Ok(Put::Added)
+    }
+}

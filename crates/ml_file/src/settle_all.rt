@@ -1,0 +1,64 @@
+//! A file is settled: thin regions go into their parents until there is none.
+ghost use Rattle.std.specs.Prelude.{◌≡◌, ℕ, ◌<◌, ◌≤◌, true, false, length, MatchOption};
+ghost use Rattle.std.specs.List.{All};
+ghost use Rattle.ml_file.specs.Files.{items_in};
+ghost use Rattle.ml_file.specs.Settled.{AreSettled, HasSameItems, IsFirstThin, is_thin};
+ghost use Rattle.ml_region.specs.Regions.{items_at, region_at};
+ghost use Rattle.ml_region.specs.declared.item.Item.{Item};
+
+use crate::file::BangFile;
+use ml_region::{Directory, Regions};
+use ml_split::settle;
+
+/// A region of another prefix than the empty one is thin if it has fewer items.
+pub const FEWEST_ITEMS: usize = 8;
+
+/// Whether a region is thin.
+fn is_thin<D: Directory>(regions: &Regions<D>, i: usize) -> bool
+    requires { i < length regions.now.regions }
+    ensures { result ≡ is_thin (region_at regions.now.regions i) }
+{
+    regions.prefix(i).len() > 0 && regions.count(i) < FEWEST_ITEMS
+}
+
+/// The first thin region in the order of prefixes, if there is one.
+fn first_thin<D: Directory>(regions: &Regions<D>) -> Option<usize>
+    ensures { MatchOption result (AreSettled regions.now.regions) (λ i. IsFirstThin regions.now.regions i) }
+{
+    for i in 0..regions.len() {
+        if is_thin(regions, i) {
+            return Some(i);
+        }
+    }
+    None
+}
+
+/// Settles the first thin region until there is none. It takes no memory.
+fn settle_regions<D: Directory>(regions: &mut Regions<D>)
+    requires few { (k : ℕ) → k < length regions.old.regions → length (items_at regions.old.regions k) ≤ 24 }
+    requires roomy { All (λ (x : Item). length x.key.bits ≤ regions.old.room) (items_in regions.old.regions) }
+    ensures items { HasSameItems regions.old.regions regions.new.regions }
+    ensures settled { AreSettled regions.new.regions }
+    ensures few { (k : ℕ) → k < length regions.new.regions → length (items_at regions.new.regions k) ≤ 24 }
+    ensures room { regions.new.room ≡ regions.old.room }
+{
+    'settling: loop {
+        let _regions = regions.len();
+        let Some(i) = first_thin(regions) else {
+            return;
+        };
+        settle(regions, i);
+    }
+}
+
+impl BangFile {
+    /// Settles the first thin region in the order of prefixes until none is thin: its items go to its parent, and where over 24 meet they are split again.
+    /// It takes no memory.
+    pub fn settle_all(&mut self)
+        ensures items { HasSameItems self.old.regions self.new.regions }
+        ensures settled { AreSettled self.new.regions }
+        ensures others { self.new ≡ record self.old { regions = self.new.regions } }
+    {
+        settle_regions(&mut self.regions);
+    }
+}

@@ -27,13 +27,13 @@ id_total = then_total (on_total (λ (a : Id). a.place) nat_cmp_total) (on_total 
 number_total : IsTotalOrder (λ (a : Item) (b : Item). nat_cmp a.number b.number)
 number_total = on_total (λ (a : Item). a.number) nat_cmp_total
 
-front_total : IsTotalOrder front_cmp
+pub front_total : IsTotalOrder front_cmp
 front_total = then_total (back_total (on_total (λ (a : Item). a.id) id_total)) number_total
 
-back_order : IsTotalOrder back_cmp
+pub back_order : IsTotalOrder back_cmp
 back_order = then_total (on_total (λ (a : Item). a.id) id_total) number_total
 
-key_total : IsTotalOrder (item_cmp Relation)
+pub key_total : IsTotalOrder (item_cmp Relation)
 key_total = on_total (λ (a : Item). a.key.bits) (lists_total bool_cmp_total)
 
 front_through : (p q r : Bool) (f g h a b c : Ordering) → (f ≡ Less → g ≡ Less → h ≡ Less) → (a ≡ Less → b ≡ Less → c ≡ Less)
@@ -76,10 +76,10 @@ pub contains_later : {X : Type 0} (x z : X) (xs : List X) → Contains xs z → 
 contains_later x z xs h = (suc h.0, omega (arith, h.1), h.2)
 
 -- the first element is before all others
-first_before : {X : Type 0} (R : X → X → Type 0) (x : X) (xs : List X) → AllPairs R (x ∷ xs) → (z : X) → Contains xs z → R x z
+pub first_before : {X : Type 0} (R : X → X → Type 0) (x : X) (xs : List X) → AllPairs R (x ∷ xs) → (z : X) → Contains xs z → R x z
 first_before R x xs pairs z h = subst (R x) h.2 (pairs 0 (suc h.0) z (omega arith) (omega (arith, h.1)))
 
-rest_rises : {X : Type 0} (R : X → X → Type 0) (x : X) (xs : List X) → AllPairs R (x ∷ xs) → AllPairs R xs
+pub rest_rises : {X : Type 0} (R : X → X → Type 0) (x : X) (xs : List X) → AllPairs R (x ∷ xs) → AllPairs R xs
 rest_rises R x xs pairs i j d h l = pairs (suc i) (suc j) d (omega arith) (omega arith)
 
 -- two lists that rise and have the same elements are the same

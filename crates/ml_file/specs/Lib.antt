@@ -1,5 +1,7 @@
 pub mod PlainList
 pub mod Files
+pub mod Marking
+pub mod Hits
 pub mod Adding
 pub mod Inserting
 pub mod Settled

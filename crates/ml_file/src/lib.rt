@@ -5,8 +5,11 @@
 #![tactic(auto)]
 
 mod file;
+mod hits;
 mod insert;
 pub mod laws;
+mod mark;
+mod order;
 mod put;
 mod settle_all;
 #[cfg(test)]

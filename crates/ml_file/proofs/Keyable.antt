@@ -1,12 +1,12 @@
 -- What a declaration's list may have, a key can be made of.
-use Rattle.std.proofs.Common.{◌≡◌, ℕ, ◌+◌, ◌<◌, ◌≤◌, Bool, true, ◌&&◌, List, [], ◌∷◌, ◌++◌, length, refl, sym, ap, ◌∙◌, subst, arith, length-append, eqb-true}
+use Rattle.std.proofs.Common.{◌≡◌, ℕ, ◌≤◌, true, ◌&&◌, List, length, refl, sym, ap, ◌∙◌, subst, arith, length-append, eqb-true}
 use Rattle.std.specs.Prelude.{codes, nat_le, ◌==◌}
 use Rattle.std.specs.Str.{bytes_eq}
 use Rattle.std.proofs.lemmas.Bool.{and_parts, leb-true}
 use Rattle.ml_key.specs.ItemKeys.{item_head}
 use Rattle.ml_search.specs.Bodies.{is_callable}
 use Rattle.ml_search.specs.Db.{head_of, body_of, is_allowed, is_tuple, is_stored_clause}
-use Rattle.ml_search.specs.Program.{arity_of, is_of, name_of}
+use Rattle.ml_search.specs.Program.{is_of}
 use Rattle.ml_term.specs.CanonicalBytes.{bytes_of, bytes_of_all, name_bytes}
 use Rattle.ml_term.specs.Keys.{argument, arguments}
 use Rattle.ml_term.specs.Tree.{Tree, Trees, variable, integer, atom, compound, no_trees, tree, arity, nodes, nodes_of, is_ground, is_numbered}

@@ -1,20 +1,18 @@
 -- One step of settling a file.
-use Rattle.std.proofs.Common.{◌≡◌, inl, inr, ℕ, zero, suc, ◌<◌, ◌≤◌, Bool, true, false, ltb, List, [], ◌++◌, length, get_or, refl, sym, ap, ◌∙◌, subst, arith}
-use Rattle.std.specs.Prelude.{Contains}
+use Rattle.std.proofs.Common.{◌≡◌, inl, inr, ℕ, ◌<◌, ◌≤◌, Bool, true, ltb, List, ◌++◌, length, get_or, sym, ap, ◌∙◌, subst, arith}
 use Rattle.std.specs.List.{All}
 use Rattle.std.proofs.lemmas.Bool.{and_parts, cases_lt, ltb-true}
 use Rattle.std.proofs.lemmas.List.Elements.{All-append, All-contains, Contains-get_or}
-use Rattle.ml_region.specs.Prefixes.{IsParent}
-use Rattle.ml_region.specs.Regions.{Region, IsWellPlaced, items_at, keys_at, region_at, region_prefixes}
+use Rattle.ml_region.specs.Regions.{Region, IsWellPlaced, items_at, keys_at, region_at}
 use Rattle.ml_region.specs.declared.item.Item.{Item}
 use Rattle.ml_split.specs.RegionSplits.{IsSettled, goes_in, splits_again}
 use Rattle.ml_split.specs.Splitting.{IsFair}
-use Rattle.ml_split.proofs.RegionKeys.{one_parent, parent_within}
+use Rattle.ml_split.proofs.RegionKeys.{one_parent}
 use Rattle.ml_file.specs.Files.{items_in}
-use Rattle.ml_file.specs.Settled.{is_thin, HasSameItems, IsFirstThin}
+use Rattle.ml_file.specs.Settled.{is_thin, HasSameItems}
 use Rattle.ml_file.proofs.Coming.{HasKeyOf, key_of_one}
 use Rattle.ml_file.proofs.Held.{item_in}
-use Rattle.ml_file.proofs.Settling.{Recut, goes_facts, recut_facts, thins}
+use Rattle.ml_file.proofs.Settling.{Recut, goes_facts, recut_facts}
 use Rattle.ml_file.proofs.Taken.{all_of}
 
 -- a thin region is not that of the empty prefix

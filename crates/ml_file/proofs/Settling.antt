@@ -1,24 +1,23 @@
 -- What becomes of items and of thin regions where a thin region is settled.
-use Rattle.std.proofs.Common.{◌≡◌, ◌⊎◌, inl, inr, ℕ, suc, ◌+◌, ◌-◌, ◌*◌, ◌<◌, ◌≤◌, Bool, true, false, cond, not, ◌&&◌, ltb, List, [], ◌∷◌, ◌++◌, length, get_or, set, take, drop, map, refl, sym, ap, ◌∙◌, subst, arith, length-append, drop-cons}
+use Rattle.std.proofs.Common.{◌≡◌, ◌⊎◌, inl, inr, ℕ, suc, ◌+◌, ◌-◌, ◌<◌, ◌≤◌, Bool, true, cond, ◌&&◌, ltb, List, [], ◌∷◌, ◌++◌, length, set, take, drop, refl, sym, ap, ◌∙◌, subst, arith, length-append, drop-cons}
 use Rattle.std.specs.Prelude.{Contains}
 use Rattle.std.specs.List.{filter, insert, remove}
 use Rattle.std.specs.List.Sorted.{IsPermutation}
-use Rattle.std.proofs.lemmas.Bool.{and_parts, and_from, and_left, and_right, cases_Bool, cases_eq, cases_lt, false_from_ne_true, lt-ltb, ltb-true, le-ltb}
+use Rattle.std.proofs.lemmas.Bool.{and_parts, and_right, cases_eq, cases_lt, lt-ltb, ltb-true, le-ltb}
 use Rattle.std.proofs.lemmas.List.{length-map, set_split, take-append-drop}
-use Rattle.std.proofs.lemmas.List.Edits.{length-insert, length-remove}
+use Rattle.std.proofs.lemmas.List.Edits.{length-remove}
 use Rattle.std.proofs.lemmas.List.Elements.{Contains-append_left, Contains-append_right, Contains-append_cases, filter-append}
 use Rattle.std.proofs.lemmas.List.Sorted.{Contains-permutation, IsPermutation-sym, length_permutation, sum_by-IsPermutation}
 use Rattle.std.proofs.lemmas.List.Sums.{length-filter}
 use Rattle.ml_term.specs.Patterns.{begins}
-use Rattle.ml_region.specs.Prefixes.{bits_at, IsOwner, IsParent}
-use Rattle.ml_region.specs.Regions.{Region, IsWellPlaced, items_at, keys_at, region_at, region_prefixes, empty_region, with_items}
-use Rattle.ml_region.specs.Changes.{IsCut, IsMerged, IsRecut, items_below, items_beside}
+use Rattle.ml_region.specs.Regions.{Region, IsWellPlaced, items_at, keys_at, region_at, empty_region, with_items}
+use Rattle.ml_region.specs.Changes.{IsMerged, IsRecut, items_below, items_beside}
 use Rattle.ml_region.specs.declared.item.Item.{Item}
 use Rattle.ml_region.proofs.Lists.{in_remove, stays, moves}
 use Rattle.ml_region.proofs.Merging.{parent_before}
-use Rattle.ml_region.proofs.Placed.{with_items_length, items_same, items_other, region_at_same, region_at_other}
+use Rattle.ml_region.proofs.Placed.{with_items_length, items_same, items_other, region_at_other}
 use Rattle.ml_split.specs.Splitting.{count_under, IsFair}
-use Rattle.ml_split.proofs.RegionKeys.{parent_within, prefix_is}
+use Rattle.ml_split.proofs.RegionKeys.{parent_within}
 use Rattle.ml_file.specs.Files.{items_in}
 use Rattle.ml_file.specs.Settled.{is_thin, HasSameItems}
 use Rattle.ml_file.proofs.Held.{LiesIn, item_lies, item_in}

@@ -1,6 +1,6 @@
 //! A file, and what can be read of it.
 ghost use Rattle.std.specs.Prelude.{◌≡◌, ◌<◌, [], ◌∷◌, length, slice_index_or, IfOk, MatchOption};
-ghost use Rattle.ml_file.specs.Files.{IsAbsent, IsHeld, IsRemoved};
+ghost use Rattle.ml_file.specs.Files.{IsAbsent, IsFile, IsHeld, IsRemoved};
 ghost use Rattle.ml_region.specs.Prefixes.{IsOwner};
 ghost use Rattle.ml_region.specs.Regions.{IsWellPlaced, empty_region, items_at, region_at};
 
@@ -65,10 +65,11 @@ impl BangFile {
         &self.decl
     }
 
-    /// How many regions there are. They are well placed.
+    /// How many regions there are. They are well placed, no one has over 24 items, and each item is one of the declaration under its key.
     pub fn len(&self) -> usize
         ensures length { result ≡ length self.now.regions }
         ensures well_placed { IsWellPlaced self.now.regions }
+        ensures kept { IsFile self.now.decl self.now.regions self.now.room }
     {
         self.regions.len()
     }

@@ -1,7 +1,16 @@
-//! A file without items.
-use crate::{BangFile, Took};
+//! A file without items, and the files of the worked rows.
+ghost use Rattle.std.specs.Prelude.{◌≡◌, IsTrue};
+ghost use Rattle.ml_search.specs.Db.{is_allowed};
+ghost use Rattle.ml_search.specs.Program.{is_of};
+ghost use Rattle.ml_term.specs.Seen.{seen};
+
+use crate::{BangFile, Put, Took};
 use ml_bits::Bits;
-use ml_term::{Decl, Keys, Kind, Name, Pred, is_name};
+use ml_key::key_of;
+use ml_term::{
+    Args, Decl, Keys, Kind, Name, Pred, Term, canonical_len_up_to, is_ground, is_name, is_valid,
+    nodes_up_to,
+};
 use std::alloc::{AllocError, Global};
 use std::process::Abort;
 use std::test::Fail;
@@ -29,5 +38,123 @@ fn a_new_file_has_no_items(rt: HostRuntime) -> Result<(), Fail> {
     assert_eq!(rt; file.count(0), 0);
     assert!(rt; file.at(&key).is_none());
     assert_eq!(rt; file.remove(&key), Took::Absent);
+    Ok(())
+}
+
+/// Whether a term is a compound of this predicate.
+fn is_named(t: &Term, pred: &Pred) -> bool
+    ensures { IsTrue result → IsTrue (is_of pred.now.name pred.now.arity (seen t.now)) }
+{
+    match t {
+        Term::Cmp(f, ts) => f.is(&pred.name) && ts.as_slice().len() == usize::from(pred.arity),
+        _ => false,
+    }
+}
+
+/// Whether a declaration is a relation, whose list may have a tuple.
+fn may_have(decl: &Decl, t: &Term) -> bool
+    ensures kind { IsTrue result → decl.now.kind ≡ Kind.Relation }
+    ensures allowed { IsTrue result → IsTrue (is_allowed decl.now (seen t.now)) }
+{
+    if decl.kind != Kind::Relation {
+        return false;
+    }
+    is_valid(t) && is_named(t, &decl.pred) && is_ground(t) && canonical_len_up_to(t, 4096) <= 4096
+}
+
+/// The tuple p(n).
+fn tuple(rt: &impl Abort, alloc: Global, number: i64) -> Result<Term, AllocError> {
+    let name = b"p".as_slice();
+    assert!(rt; is_name(name));
+    let arguments = vec![in alloc; Term::Int(number)]?;
+    Ok(Term::Cmp(Name::new(alloc, name)?, Args::new(arguments)))
+}
+
+/// Inserts p(n).
+fn insert(
+    rt: &impl Abort,
+    alloc: Global,
+    file: &mut BangFile,
+    number: i64,
+) -> Result<Put, AllocError> {
+    let t = tuple(rt, alloc, number)?;
+    assert!(rt; may_have(file.decl(), &t));
+    file.insert(t, 0)
+}
+
+/// Takes p(n) out.
+fn remove(
+    rt: &impl Abort,
+    alloc: Global,
+    file: &mut BangFile,
+    number: i64,
+) -> Result<Took, AllocError> {
+    let t = tuple(rt, alloc, number)?;
+    assert!(rt; may_have(file.decl(), &t));
+    assert!(rt; nodes_up_to(&t, 4096) <= 4096);
+    let key = key_of(alloc, file.decl(), &t, 0)?;
+    Ok(file.remove(&key))
+}
+
+/// How many items each region has.
+fn counts(alloc: Global, file: &BangFile) -> Result<Vec<usize>, AllocError> {
+    let mut found = Vec::new(alloc);
+    for i in 0..file.len() {
+        found.push(file.count(i))?;
+    }
+    Ok(found)
+}
+
+/// The length of the prefix of the last region.
+fn last_prefix(rt: &impl Abort, file: &BangFile) -> usize {
+    let len = file.len();
+    assert!(rt; len > 0);
+    file.prefix(len - 1).len()
+}
+
+/// The file of p(0) to p(24).
+fn first_file(rt: &impl Abort, alloc: Global) -> Result<BangFile, AllocError> {
+    let mut file = BangFile::new(alloc, declared(rt, alloc)?)?;
+    for number in 0..25 {
+        assert!(rt; insert(rt, alloc, &mut file, number)? == Put::Added);
+    }
+    Ok(file)
+}
+
+/// p(0) to p(24) are in two regions. Where p(0) to p(7) go, the nested one keeps 8; where p(8) goes too, one region is left.
+#[test]
+fn splits_and_merges_regions(rt: HostRuntime) -> Result<(), Fail> {
+    let alloc = rt.alloc();
+    let mut file = first_file(&rt, alloc)?;
+    assert!(rt; insert(&rt, alloc, &mut file, 3)? == Put::Present);
+    assert_eq!(rt; counts(alloc, &file)?.as_slice(), [9, 16].as_slice());
+    assert_eq!(rt; last_prefix(&rt, &file), 60);
+    for number in 0..8 {
+        assert!(rt; remove(&rt, alloc, &mut file, number)? == Took::Removed);
+    }
+    file.settle_all();
+    assert_eq!(rt; counts(alloc, &file)?.as_slice(), [9, 8].as_slice());
+    assert!(rt; remove(&rt, alloc, &mut file, 8)? == Took::Removed);
+    file.settle_all();
+    assert_eq!(rt; counts(alloc, &file)?.as_slice(), [16].as_slice());
+    assert!(rt; remove(&rt, alloc, &mut file, 8)? == Took::Absent);
+    Ok(())
+}
+
+/// With p(32) to p(46) the first region has 24 items and isn't split. Where p(0) to p(8) go, 31 items meet and are split again.
+#[test]
+fn splits_again_after_a_merge(rt: HostRuntime) -> Result<(), Fail> {
+    let alloc = rt.alloc();
+    let mut file = first_file(&rt, alloc)?;
+    for number in 32..47 {
+        assert!(rt; insert(&rt, alloc, &mut file, number)? == Put::Added);
+    }
+    assert_eq!(rt; counts(alloc, &file)?.as_slice(), [24, 16].as_slice());
+    for number in 0..9 {
+        assert!(rt; remove(&rt, alloc, &mut file, number)? == Took::Removed);
+    }
+    file.settle_all();
+    assert_eq!(rt; counts(alloc, &file)?.as_slice(), [15, 16].as_slice());
+    assert_eq!(rt; last_prefix(&rt, &file), 59);
     Ok(())
 }

@@ -1,4 +1,4 @@
-use Rattle.std.proofs.Common.{◌≡◌, ℕ, ◌<◌, ◌≤◌, length, map, sym, subst, arith}
+use Rattle.std.proofs.Common.{◌≡◌, ◌<◌, length, sym, subst, arith}
 use Rattle.std.proofs.lemmas.List.{length-map}
 use Rattle.ml_region.specs.Regions.{Region, items_at, region_prefixes}
 use Rattle.ml_region.proofs.Owners.{one_owner}

@@ -1,4 +1,4 @@
-use Rattle.std.proofs.Common.{◌≡◌, true, refl, sym, ap, ◌∙◌, subst}
+use Rattle.std.proofs.Common.{◌≡◌, true, sym, ap, ◌∙◌, subst}
 use Rattle.ml_bits.specs.BitList.{BitList}
 use Rattle.ml_key.specs.ItemKeys.{item_key}
 use Rattle.ml_region.specs.declared.item.Id.{Id}

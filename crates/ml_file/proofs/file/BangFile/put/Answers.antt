@@ -1,5 +1,5 @@
-use Rattle.std.proofs.Common.{◌≡◌, ◌<◌, ◌≤◌, ◌^◌, length, refl, sym, ap, ◌∙◌, subst, arith}
-use Rattle.ml_region.specs.Regions.{IsApart, items_at}
+use Rattle.std.proofs.Common.{◌≤◌, length, refl, sym, ap, ◌∙◌, subst, arith}
+use Rattle.ml_region.specs.Regions.{IsApart}
 use Rattle.ml_file.specs.Adding.{HasGrown, IsAdded, IsPresent, MayCome}
 use Rattle.ml_file.specs.Files.{File, IsAbsent, IsFile, items_in}
 use Rattle.ml_file.specs.PlainList.{IsWith}

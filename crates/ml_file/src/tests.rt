@@ -158,3 +158,47 @@ fn splits_again_after_a_merge(rt: HostRuntime) -> Result<(), Fail> {
     assert_eq!(rt; last_prefix(&rt, &file), 59);
     Ok(())
 }
+
+/// The pattern p(X).
+fn any(rt: &impl Abort, alloc: Global) -> Result<Term, AllocError> {
+    let name = b"p".as_slice();
+    assert!(rt; is_name(name));
+    let arguments = vec![in alloc; Term::Var(0)]?;
+    Ok(Term::Cmp(Name::new(alloc, name)?, Args::new(arguments)))
+}
+
+/// The tuples that a pattern meets.
+fn met(rt: &impl Abort, file: &BangFile, pattern: &Term) -> Result<Vec<Term>, AllocError> {
+    assert!(rt; is_valid(pattern));
+    assert!(rt; is_named(pattern, &file.decl().pred));
+    assert!(rt; nodes_up_to(pattern, 4096) <= 4096);
+    file.matches(pattern)
+}
+
+/// Whether a term is a compound of this number alone.
+fn is_of_number(t: &Term, number: i64) -> bool {
+    match t {
+        Term::Cmp(_, ts) => match ts.as_slice() {
+            [Term::Int(z)] => *z == number,
+            _ => false,
+        },
+        _ => false,
+    }
+}
+
+/// p(X) meets p(0) to p(24) in both regions, in the order of their keys; p(7) meets itself alone, and p(25) none.
+#[test]
+fn a_pattern_meets_tuples_of_all_regions(rt: HostRuntime) -> Result<(), Fail> {
+    let alloc = rt.alloc();
+    let file = first_file(&rt, alloc)?;
+    let mut number = 0;
+    for t in met(&rt, &file, &any(&rt, alloc)?)?.iter() {
+        assert!(rt; number < 25);
+        assert!(rt; is_of_number(t, number));
+        number += 1;
+    }
+    assert_eq!(rt; number, 25);
+    assert_eq!(rt; met(&rt, &file, &tuple(&rt, alloc, 7)?)?.len(), 1);
+    assert_eq!(rt; met(&rt, &file, &tuple(&rt, alloc, 25)?)?.len(), 0);
+    Ok(())
+}

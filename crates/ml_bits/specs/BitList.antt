@@ -43,5 +43,6 @@ pub record IsCommonLength (first second : List Bool) (n : ℕ) : Type 0 where
 abbrev pub bits_cmp : BitList → BitList → Ordering
 bits_cmp first second = slice_cmp bool_cmp first.bits second.bits
 
+-- that order is total
 pub bits_cmp_total : IsTotalOrder bits_cmp
 bits_cmp_total = on_total (λ (list : BitList). list.bits) (lists_total bool_cmp_total)

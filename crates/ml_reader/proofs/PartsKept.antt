@@ -18,7 +18,8 @@ use Rattle.ml_search.specs.WellFormed.{is_clause_head, are_undeclared}
 use Rattle.ml_search.proofs.Declaring.{declared_at, equal_swapped, names_swapped}
 use Rattle.ml_reader.specs.Lexemes.{Written}
 use Rattle.ml_reader.specs.Forms.{Form, directive, query, rule, fact, form}
-use Rattle.ml_reader.specs.Rules.{Part, in_program, in_list, wrong, sized, is_relation_at, place_for, fact_at, rule_at, part, parts, clause_part, item_part, are_items}
+use Rattle.ml_reader.specs.Rules.{Part, in_program, in_list, wrong, sized, is_relation_at, place_for, fact_at, rule_at, part, parts, clause_part, item_part}
+use Rattle.ml_search.specs.Loading.{are_items}
 use Rattle.ml_reader.specs.Texts.{IsWellRead}
 use Rattle.ml_reader.specs.declared.fault.ReadKind.TheVariants.{BadClause, ItemTooLarge}
 use Rattle.ml_reader.proofs.FormLaws.{term_of, term_is, valid_fact, numbered_fact}

@@ -15,6 +15,7 @@ pub record Said : Type 0 where
   pub kind : Kind
   pub keys : List ℕ
 
+-- what a declaration says
 abbrev pub said_by : Decl → Said
 said_by d = record { pred = d.pred; kind = d.kind; keys = d.keys }
 
@@ -22,6 +23,7 @@ said_by d = record { pred = d.pred; kind = d.kind; keys = d.keys }
 abbrev pub fits : Said → Bool
 fits s = are_keys s.pred.arity s.keys && not (is_reserved s.pred.name s.pred.arity)
 
+-- what may be declared
 abbrev pub fitting : Said → Option Said
 fitting s = cond (fits s) (Some s) None
 
@@ -34,6 +36,7 @@ abbrev pub small : ℤ → Option ℕ
 small (pos n) = cond (nat_le n 255) (Some n) None
 small (negsuc n) = None
 
+-- an integer that is at most 255
 abbrev pub small_integer : Tree → Option ℕ
 small_integer (integer z) = small z
 small_integer t = None
@@ -43,6 +46,7 @@ abbrev pub named : List ℕ → Option ℕ → Option Pred
 named f None = None
 named f (Some n) = Some (record { name = f; arity = n })
 
+-- a name and a number of arguments, by their terms
 abbrev pub named_by : Tree → Tree → Option Pred
 named_by (atom f) u = named f (small_integer u)
 named_by t u = None
@@ -79,10 +83,12 @@ with_keys k None ks = None
 with_keys k (Some p) None = None
 with_keys k (Some p) (Some ks) = fitting (record { pred = p; kind = k; keys = ks })
 
+-- without keys, by the name of the kind
 abbrev pub plainly_of : Option Kind → Tree → Option Said
 plainly_of None t = None
 plainly_of (Some k) t = plainly k (predicate t)
 
+-- with keys, by the name of the kind
 abbrev pub with_keys_of : Option Kind → Tree → Tree → Option Said
 with_keys_of None t u = None
 with_keys_of (Some k) t u = with_keys k (predicate t) (numbers u)

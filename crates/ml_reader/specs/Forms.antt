@@ -12,6 +12,7 @@ pub data Form : Type 0 where
   rule : Tree → Tree → Form
   fact : Tree → Form
 
+-- the form of a term
 abbrev pub form : Tree → Form
 form (compound f (tree t no_trees)) = cond (bytes_eq (codes ":-") f) (directive t) (cond (bytes_eq (codes "?-") f) (query t) (fact (compound_1 f t)))
 form (compound f (tree t (tree u no_trees))) = cond (bytes_eq (codes ":-") f) (rule t u) (fact (compound_2 f t u))

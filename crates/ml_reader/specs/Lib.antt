@@ -27,5 +27,4 @@ pub mod Rules
 pub mod FormsSeen
 pub mod DeclarationSteps
 pub mod PartsSeen
-pub mod ItemsSeen
 pub mod RulesSteps

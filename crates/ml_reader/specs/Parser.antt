@@ -20,16 +20,19 @@ pub data Stack : Type 0 where
   root : List Written → Stack
   ◌▹◌ : Frame → Stack → Stack
 
+-- What the next token finds: a term is to begin, a bracket was opened, a name was read, or an operand was read.
 pub data State : Type 0 where
   want : Stack → State  -- a term begins here
   fresh : Bool → Stack → State  -- an opening bracket was read
   word : Bool → List ℕ → Stack → State  -- a name was read where a term begins
   have : ℕ → Tree → Stack → State  -- an operand with its priority
 
+-- A clash of priorities, or a token with which nothing goes on.
 pub data Fault : Type 0 where
   clash : Fault
   unexpected : Fault
 
+-- the next state, or a fault
 abbrev pub Next : Type 0
 Next = Result State Fault
 
@@ -87,13 +90,16 @@ operated b o p t (between o' u ▹ fs) = tried b (fits b o.priority o'.right) o 
 operated b o p t (root cs) = tried b (fits b o.priority 1200) o p t (root cs) (Err clash)
 operated b o p t (f ▹ fs) = tried b (fits b o.priority (limit (f ▹ fs))) o p t (f ▹ fs) (Err clash)
 
+-- the same, by the infix operator that the token is, if it is one
 abbrev pub had_as : Bool → Option Operator → Lexeme → ℕ → Tree → Stack → Next
 had_as b (Some o) x p t fs = operated b o p t fs
 had_as b None x p t fs = ended x t fs
 
+-- a token behind an operand
 abbrev pub had : Bool → Lexeme → ℕ → Tree → Stack → Next
 had b x p t fs = had_as b (infix_at (commas fs) x) x p t fs
 
+-- a token where a term begins
 abbrev pub wanted : Lexeme → Stack → Next
 wanted (name q f) fs = Ok (word (is_minus q f) f fs)
 wanted (unknown n) fs = Ok (have 0 (variable n) fs)
@@ -103,6 +109,7 @@ wanted bracket fs = Ok (fresh true fs)
 wanted brace fs = Ok (fresh false fs)
 wanted x fs = Err unexpected
 
+-- a token behind an opening bracket
 abbrev pub after_bracket : Bool → Lexeme → Stack → Next
 after_bracket true unbracket fs = Ok (word false brackets_name fs)
 after_bracket false unbrace fs = Ok (word false braces_name fs)
@@ -114,29 +121,35 @@ abbrev pub put : Bool → List ℕ → Operator → Lexeme → Stack → Next
 put true f o x fs = wanted x (before f o ▹ fs)
 put false f o x fs = Err clash
 
+-- a token behind a prefix operator
 abbrev pub prefixed : Bool → Option Operator → List ℕ → Lexeme → Stack → Next
 prefixed b None f x fs = Err unexpected
 prefixed b (Some o) f x fs = put (fits b o.priority (limit fs)) f o x fs
 
+-- a token behind a name that is an operand, or else a prefix operator
 abbrev pub operand_or_prefix : Bool → Bool → List ℕ → Lexeme → Stack → Next
 operand_or_prefix b true f x fs = had b x 0 (atom f) fs
 operand_or_prefix b false f x fs = prefixed b (prefix_of f) f x fs
 
+-- a token behind a name
 abbrev pub after_word : Bool → Bool → List ℕ → Lexeme → Stack → Next
 after_word b m f (paren true) fs = Ok (want (arguments f no_trees ▹ fs))
 after_word b true f (number true n) fs = Ok (have 0 (integer (neg_ℤ (pos n))) fs)
 after_word b m f x fs = operand_or_prefix b (not (is_operator f) || closes x) f x fs
 
+-- one token
 abbrev pub step : Bool → State → Lexeme → Next
 step b (want fs) x = wanted x fs
 step b (fresh k fs) x = after_bracket k x fs
 step b (word m f fs) x = after_word b m f x fs
 step b (have p t fs) x = had b x p t fs
 
+-- tokens, one after another
 abbrev pub run : Bool → Next → List Lexeme → Next
 run b s [] = s
 run b (Ok s) (x ∷ xs) = run b (step b s x) xs
 run b (Err e) (x ∷ xs) = Err e
 
+-- all tokens of a text
 abbrev pub read : Bool → List Lexeme → Next
 read b xs = run b (Ok (want (root []))) xs

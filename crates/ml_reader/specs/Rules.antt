@@ -6,7 +6,6 @@ use Rattle.ml_term.specs.Tree.{Tree, is_ground}
 use Rattle.ml_term.specs.declared.declaration.Decl.{Decl}
 use Rattle.ml_search.specs.Program.{Clause, Program, name_of, arity_of, true_body, clause_term, place_of, holds_of, is_relation}
 use Rattle.ml_search.specs.Bodies.{is_callable}
-use Rattle.ml_search.specs.Db.{is_allowed}
 use Rattle.ml_search.specs.Known.{is_over_bytes}
 use Rattle.ml_search.specs.WellFormed.{is_clause_head, are_declared_once}
 use Rattle.ml_reader.specs.Lexemes.{Written}
@@ -62,16 +61,19 @@ part ds (fact h) = Some (cond (is_clause_head h) (fact_at ds (place_for ds h) h)
 abbrev pub parts : List Decl → List Written → List Part
 parts ds cs = filter_map (λ c. part ds (form c.term)) cs
 
+-- whether a part isn't wrong
 abbrev pub is_right : Part → Bool
 is_right (in_program c) = true
 is_right (in_list k t) = true
 is_right (wrong k) = false
 
+-- the clause of a part that belongs to the program
 abbrev pub clause_part : Part → Option Clause
 clause_part (in_program c) = Some c
 clause_part (in_list k t) = None
 clause_part (wrong k) = None
 
+-- the item of a part that belongs to a list, with the number of its declaration
 abbrev pub item_part : Part → Option (ℕ × Tree)
 item_part (in_program c) = None
 item_part (in_list k t) = Some (k, t)
@@ -104,7 +106,3 @@ pub record IsRules (bytes : List ℕ) (program : Program) (items : List (ℕ × 
 pub data RulesHaveFault (bytes : List ℕ) : ReadFault → Type 0 where
   in_text : {f : ReadFault} → HasFirstFault bytes f → RulesHaveFault bytes f
   in_rules : {cs : List Written} {f : ReadFault} → IsRead bytes cs → RulesGoWrong cs f → RulesHaveFault bytes f
-
--- whether each item is one that its declaration's list may have
-abbrev pub are_items : List Decl → List (ℕ × Tree) → Bool
-are_items ds es = list_all (λ e. holds_of (λ d. is_allowed d e.1) (slice_get ds e.0)) es

@@ -9,6 +9,7 @@ use Rattle.ml_search.specs.WellFormed.{is_goal}
 use Rattle.ml_search.specs.declared.limits.TheConstants.{MOST_INFERENCES, GIVEN_INFERENCES}
 use Rattle.ml_reader.specs.Lexemes.{Written}
 
+-- What a clause is in a script, or that it is nothing there.
 pub data Item : Type 0 where
   budget : ℕ → Item
   query : Goal → Item

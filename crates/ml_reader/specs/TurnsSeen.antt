@@ -8,6 +8,7 @@ use Rattle.ml_reader.specs.Turns.{Turned, on, whole, wrong}
 use Rattle.ml_reader.specs.declared.turn.Turn.{Turn}
 use Rattle.ml_reader.specs.declared.turn.Turn.TheVariants.{Go, Clause, Whole, Wrong}
 
+-- what a turn of the code comes to
 abbrev pub turn_seen : Turn → Turned
 turn_seen (Go c s) = on (context_seen c) (state_seen s)
 turn_seen (Clause c r) = on (context_seen c) (P.want (P.root (read_seen r ∷ [])))

@@ -1,7 +1,7 @@
 //! Rules as they are read.
 ghost use Rattle.std.specs.Prelude.{IsTrue};
-ghost use Rattle.ml_reader.specs.ItemsSeen.{items_seen};
-ghost use Rattle.ml_reader.specs.Rules.{are_items};
+ghost use Rattle.ml_search.specs.ItemsSeen.{items_seen};
+ghost use Rattle.ml_search.specs.Loading.{are_items};
 
 use crate::items::Items;
 use ml_search::Program;

@@ -1,9 +1,9 @@
 //! Reads rules.
 ghost use Rattle.std.specs.Prelude.{◌≡◌, ◌⊎◌, ℕ, ◌<◌, ◌^◌, Err, IfOk, MatchResult, List, length};
-ghost use Rattle.ml_reader.specs.ItemsSeen.{items_seen};
 ghost use Rattle.ml_reader.specs.Rules.{IsRules, RulesHaveFault};
 ghost use Rattle.ml_reader.specs.declared.fault.ReadFault.{ReadFault};
 ghost use Rattle.ml_reader.specs.declared.fault.ReadStop.TheVariants as read_stop;
+ghost use Rattle.ml_search.specs.ItemsSeen.{items_seen};
 ghost use Rattle.ml_search.specs.Program.{Program};
 ghost use Rattle.ml_search.specs.ProgramSeen.{program_seen};
 ghost use Rattle.ml_term.specs.Tree.{Tree};

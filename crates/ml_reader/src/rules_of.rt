@@ -2,14 +2,15 @@
 ghost use Rattle.std.specs.Prelude.{◌≡◌, ◌<◌, ◌^◌, Err, IfOk, IsTrue, OnOk, List, length, map};
 ghost use Rattle.std.specs.List.{AllByRecursion};
 ghost use Rattle.ml_reader.specs.Forms.{form};
-ghost use Rattle.ml_reader.specs.ItemsSeen.{items_seen};
-ghost use Rattle.ml_reader.specs.Rules.{AreRules, Declare, RulesGoWrong, are_items, part};
+ghost use Rattle.ml_reader.specs.Rules.{AreRules, Declare, RulesGoWrong, part};
 ghost use Rattle.ml_reader.specs.RulesSteps.{Becomes, GoesIn, IsWrong, IsWrongUnder};
 ghost use Rattle.ml_reader.specs.Seen.{read_seen};
 ghost use Rattle.ml_reader.specs.declared.fault.ReadFault.{ReadFault};
 ghost use Rattle.ml_reader.specs.Texts.{IsWellRead};
 ghost use Rattle.ml_reader.specs.declared.fault.ReadStop.TheVariants as read_stop;
 ghost use Rattle.ml_search.specs.ClauseSeen.{clauses_seen};
+ghost use Rattle.ml_search.specs.ItemsSeen.{items_seen};
+ghost use Rattle.ml_search.specs.Loading.{are_items};
 ghost use Rattle.ml_search.specs.ProgramSeen.{program_seen};
 ghost use Rattle.ml_search.specs.WellFormed.{are_undeclared};
 ghost use Rattle.ml_term.specs.Seen.{seen};
@@ -32,8 +33,7 @@ fn stop(kind: ReadKind, place: usize) -> ReadStop
     ReadStop::Fault(ReadFault { place, kind })
 }
 
-/// Puts what a clause declares behind the declarations of those before it, if it is a clause `:- T`. Where it is wrong, or memory is refused, they
-/// stay as they were.
+/// Puts what a clause declares behind the declarations of those before it, if it is a clause `:- T`.
 fn declare(alloc: Global, decls: &mut Decls, read: &Read) -> Result<(), ReadStop>
     requires { length decls.old < MOST_DECLARATIONS }
     ensures ok { OnOk result (Becomes (read_seen read.now) decls.old decls.new) }
@@ -67,8 +67,7 @@ fn declarations(alloc: Global, reads: &[Read]) -> Result<Decls, ReadStop>
     Ok(decls)
 }
 
-/// Puts a clause behind those of the program, or behind the items, where it belongs there; a clause `:- T` belongs nowhere. Where it is wrong, or
-/// memory is refused, they stay as they were.
+/// Puts a clause behind those of the program, or behind the items, where it belongs there; a clause `:- T` belongs nowhere.
 fn sort_in(
     alloc: Global,
     decls: &Decls,

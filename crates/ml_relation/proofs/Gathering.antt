@@ -13,8 +13,8 @@ use Rattle.ml_term.specs.declared.declaration.Kind.TheVariants.{Relation, Clause
 use Rattle.ml_term.proofs.Columns.{and_first, and_second}
 use Rattle.ml_search.specs.Program.{holds_of, is_relation, is_of}
 use Rattle.ml_search.specs.Db.{is_allowed, is_tuple}
-use Rattle.ml_search.specs.Loading.{terms_for, first_list, first_lists_from}
-use Rattle.ml_relation.specs.Items.{are_items, with_term, gathered, in_order, AreSized}
+use Rattle.ml_search.specs.Loading.{are_items, terms_for, first_list, first_lists_from}
+use Rattle.ml_relation.specs.Items.{with_term, gathered, in_order, AreSized}
 use Rattle.ml_relation.specs.KeyOrder.{size}
 
 -- lists with all items put in

@@ -2,9 +2,10 @@
 ghost use Rattle.std.specs.Prelude.{◌≡◌, ◌<◌, [], IsTrue, IfOk, OnOk, length, replicate};
 ghost use Rattle.std.specs.List.{list_all};
 ghost use Rattle.ml_relation.specs.Calls.{terms_at};
-ghost use Rattle.ml_relation.specs.Items.{AreSized, are_items, gathered, in_order, items_seen, with_term};
+ghost use Rattle.ml_relation.specs.Items.{AreSized, gathered, in_order, with_term};
 ghost use Rattle.ml_relation.specs.Lists.{all_trees, lists_of, trees};
-ghost use Rattle.ml_search.specs.Loading.{first_lists};
+ghost use Rattle.ml_search.specs.ItemsSeen.{items_seen};
+ghost use Rattle.ml_search.specs.Loading.{are_items, first_lists};
 ghost use Rattle.ml_search.specs.Program.{is_relation};
 ghost use Rattle.ml_term.specs.Seen.{seen};
 

@@ -3,7 +3,7 @@ use Rattle.std.specs.Prelude.{List, map}
 use Rattle.ml_search.specs.Program.{Script}
 use Rattle.ml_search.specs.ProgramSeen.{program_seen, script_seen}
 use Rattle.ml_search.specs.declared.script.Script as S
-use Rattle.ml_reader.specs.ItemsSeen.{items_seen}
+use Rattle.ml_search.specs.ItemsSeen.{items_seen}
 use Rattle.ml_reader.specs.declared.rules.Rules as R
 use Rattle.ml_run.specs.Texts.{Loads}
 

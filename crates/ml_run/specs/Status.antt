@@ -30,6 +30,7 @@ NamesWord n status = Unit {0}
 abbrev pub told : List ℕ → List ℕ → List ℕ
 told fault name = codes "megalog: " ++ fault ++ name ++ 10 ∷ []
 
+-- a word, and no byte where there is none
 abbrev pub word_or_none : Option (List ℕ) → List ℕ
 word_or_none (Some word) = word
 word_or_none None = []

@@ -46,11 +46,13 @@ place_cmp mine mine = Equal
 abbrev pub id_cmp : Id → Id → Ordering
 id_cmp a b = ordering_then (place_cmp a.place b.place) (nat_cmp a.change b.change)
 
+-- whether an order is `Less`
 abbrev pub is_less : Ordering → Bool
 is_less Less = true
 is_less Equal = false
 is_less Greater = false
 
+-- whether an order is `Equal`
 abbrev pub is_equal : Ordering → Bool
 is_equal Less = false
 is_equal Equal = true

@@ -15,6 +15,7 @@ pub data Value : Type 0 where
 abbrev pub in_range : ℤ → Value
 in_range z = cond (is_in_range z) (value z) (fault (evaluation_error (codes "int_overflow")))
 
+-- whether an integer is negative
 abbrev pub is_below_zero : ℤ → Bool
 is_below_zero (pos n) = false
 is_below_zero (negsuc n) = true

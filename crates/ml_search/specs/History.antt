@@ -14,6 +14,7 @@ abbrev pub placed_at : ℕ → Place → Place
 placed_at k (at n) = at n
 placed_at k mine = at k
 
+-- an item, committed by the entry at a place if it was no entry's yet
 abbrev pub item_at : ℕ → Item → Item
 item_at k i = record { id = record { place = placed_at k i.id.place; change = i.id.change }; term = i.term }
 

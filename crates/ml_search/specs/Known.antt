@@ -27,6 +27,7 @@ control_names =
 abbrev pub store_names : List (List ℕ × ℕ)
 store_names = (codes "insert_tuple", 1) ∷ (codes "delete_tuple", 1) ∷ (codes "assertz", 1) ∷ (codes "asserta", 1) ∷ (codes "retract", 1) ∷ []
 
+-- whether a table has a name with this number of arguments
 abbrev pub has_name : List (List ℕ × ℕ) → List ℕ → ℕ → Bool
 has_name es f n = list_any (λ e. bytes_eq e.0 f && (e.1 == n)) es
 
@@ -39,10 +40,12 @@ abbrev pub given_head : Tree → Tree
 given_head (compound f (tree h (tree b no_trees))) = cond (bytes_eq f (codes ":-")) h (compound f (tree h (tree b no_trees)))
 given_head c = c
 
+-- the body of a clause that is given, or `true`
 abbrev pub given_body : Tree → Tree
 given_body (compound f (tree h (tree b no_trees))) = cond (bytes_eq f (codes ":-")) b true_body
 given_body c = true_body
 
+-- whether the canonical bytes of a term are more than an item may have
 abbrev pub is_over_bytes : Tree → Bool
 is_over_bytes t = nat_lt most_bytes (length (bytes_of t))
 
@@ -103,6 +106,7 @@ module _ (program : Program) where
       ∷ (codes "retract", λ c. known_unless (retract_fault (given_head c) (given_body c)) (retracting (list_for program.decls (given_head c)) (given_head c) (given_body c)))
       ∷ []
 
+  -- a store built-in by its name and its one argument
   abbrev pub store_known : List ℕ → List Tree → Option Known
   store_known f (t ∷ []) = with (λ k. k t) (named store_built_in f)
   store_known f ts = None

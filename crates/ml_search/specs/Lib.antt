@@ -25,6 +25,7 @@ pub mod Seen
 pub mod ClauseSeen
 pub mod GoalSeen
 pub mod ProgramSeen
+pub mod ItemsSeen
 pub mod DeclTable
 pub mod Words
 pub mod Loading

@@ -1,7 +1,7 @@
 -- The lists with which a history begins, from items with the numbers of their declarations, in the order in which they are given. The code puts the items
 -- into files; here tuples are put in order one after another.
-use Rattle.std.specs.Prelude.{ℕ, ◌+◌, ◌==◌, List, [], ◌∷◌, Option, Some, None, cond}
-use Rattle.std.specs.List.{filter_map}
+use Rattle.std.specs.Prelude.{ℕ, ◌+◌, ◌==◌, Bool, List, [], ◌∷◌, Option, Some, None, cond, slice_get}
+use Rattle.std.specs.List.{filter_map, list_all}
 use Rattle.std.specs.declared.cmp.Ordering.{Ordering}
 use Rattle.std.specs.declared.cmp.Ordering.TheVariants.{Less, Equal, Greater}
 use Rattle.ml_term.specs.Tree.{Tree}
@@ -9,7 +9,12 @@ use Rattle.ml_term.specs.Keys.{tuple_cmp}
 use Rattle.ml_term.specs.declared.declaration.Decl.{Decl}
 use Rattle.ml_term.specs.declared.declaration.Kind.{Kind}
 use Rattle.ml_term.specs.declared.declaration.Kind.TheVariants.{Relation, Clauses}
-use Rattle.ml_search.specs.Db.{Db, loaded}
+use Rattle.ml_search.specs.Db.{Db, is_allowed, loaded}
+use Rattle.ml_search.specs.Program.{holds_of}
+
+-- whether each item is one that the list of its declaration may have
+abbrev pub are_items : List Decl → List (ℕ × Tree) → Bool
+are_items ds es = list_all (λ e. holds_of (λ d. is_allowed d e.1) (slice_get ds e.0)) es
 
 -- a tuple at its key's place, unless it is there
 abbrev pub with_tuple : List ℕ → Tree → List Tree → List Tree
@@ -43,8 +48,10 @@ abbrev pub first_lists_from : ℕ → List Decl → List (ℕ × Tree) → List 
 first_lists_from d [] items = []
 first_lists_from d (q ∷ qs) items = first_list q.kind q.keys (terms_for d items) ∷ first_lists_from (1 + d) qs items
 
+-- the first list of each declaration
 abbrev pub first_lists : List Decl → List (ℕ × Tree) → List (List Tree)
 first_lists decls items = first_lists_from 0 decls items
 
+-- the lists with which a history begins
 abbrev pub first_db : List Decl → List (ℕ × Tree) → Db
 first_db decls items = loaded (first_lists decls items)

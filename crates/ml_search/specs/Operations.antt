@@ -110,5 +110,6 @@ module _ (decls : List Decl) where
   is_log_from before [] = true
   is_log_from before (e ∷ l) = is_valid_after before e.0 && is_reply_after before e.0 e.1 && is_log_from (before ++ e ∷ []) l
 
+  -- the same of a whole log
   abbrev pub is_log : Log → Bool
   is_log l = is_log_from [] l

@@ -9,6 +9,7 @@ use Rattle.ml_search.specs.declared.ending.Ending.TheVariants.{Committed, Aborte
 use Rattle.ml_search.specs.Session.{Session, line}
 use Rattle.ml_search.specs.History.{Entry}
 
+-- how the end of a session is written
 abbrev pub ending_text : Ending → List ℕ
 ending_text Committed = codes "committed"
 ending_text Aborted = codes "aborted"
@@ -27,6 +28,7 @@ block e = by e.ran
     by None = session_line e.number (codes "out of memory")
     by (Some s) = session_line e.number (ending_text s.ending) ++ flat_map (λ l. l) s.lines
 
+-- the blocks of a history's entries, one after another
 abbrev pub printed : List Entry → List ℕ
 printed = flat_map block
 
@@ -48,6 +50,7 @@ behind text bs = cond (bytes_eq (take (length text) bs) text) (Some (drop (lengt
 abbrev pub digits : List ℕ → List ℕ
 digits = take_while is_digit
 
+-- the number that digits spell, behind those that spell n
 abbrev pub number_from : ℕ → List ℕ → ℕ
 number_from n [] = n
 number_from n (b ∷ bs) = number_from (10 * n + (b - 48)) bs

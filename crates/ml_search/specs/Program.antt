@@ -60,6 +60,7 @@ true_body = atom (codes "true")
 abbrev pub clause_term : Tree → Tree → Tree
 clause_term = compound_2 (codes ":-")
 
+-- whether a declaration is of this name and arity
 abbrev pub has_predicate : List ℕ → ℕ → Decl → Bool
 has_predicate f n d = bytes_eq d.pred.name f && (d.pred.arity == n)
 

@@ -111,6 +111,7 @@ module _ (decls : List Decl) where
   abbrev pub begun : Db → Store
   begun db = record { lists = record { db = db; made = [] }; cursors = [] }
 
+  -- the replies of lists of which nothing was asked yet
   abbrev pub replay : Db → List Operation → List Reply
   replay db os = replies os (begun db)
 
@@ -129,6 +130,7 @@ module _ (decls : List Decl) where
   noted place (opens d pattern, r) p = record p { cursors = p.cursors ++ cursor_over d pattern p.db ∷ [] }
   noted place (o, r) p = changed_once place (is_change r) (alter_of p.cursors o) p
 
+  -- the lists after a log, and what was opened and changed
   abbrev pub after_log : Place → Log → Progress → Progress
   after_log place [] p = p
   after_log place (e ∷ l) p = after_log place l (noted place e p)

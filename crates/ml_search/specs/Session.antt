@@ -52,6 +52,7 @@ pub record Written : Type 0 where
   pub bytes : ℕ
   pub fault : Option Tree
 
+-- one more line before others
 abbrev pub with_line : List ℕ → Written → Written
 with_line l w = record { lines = l ∷ w.lines; bytes = w.bytes; fault = w.fault }
 
@@ -73,12 +74,15 @@ raised_by exhausted = Some (resource_error (codes "inferences"))
 abbrev pub raised_in : Written → Outcome → Option Tree
 raised_in w o = option_or w.fault (raised_by o.end)
 
+-- `goal J`
 abbrev pub goal_line : ℕ → List ℕ
 goal_line j = line (codes "goal " ++ decimal_text j)
 
+-- `  N answers`
 abbrev pub count_line : ℕ → List ℕ
 count_line n = line (codes "  " ++ decimal_text n ++ codes " answers")
 
+-- `  error TERM`
 abbrev pub error_line : Tree → List ℕ
 error_line t = line (codes "  error " ++ text_of t [])
 
@@ -89,6 +93,7 @@ pub record Session : Type 0 where
   pub db : Db
   pub changes : List Change
 
+-- a session with lines before its own
 abbrev pub with_lines : List (List ℕ) → Session → Session
 with_lines ls s = record s { lines = ls ++ s.lines }
 
@@ -96,6 +101,7 @@ with_lines ls s = record s { lines = ls ++ s.lines }
 abbrev pub uncommitted : List (List ℕ) → Ending → Db → Session
 uncommitted ls ending db = record { lines = ls; ending = ending; db = db; changes = [] }
 
+-- a session that leaves the lists as its goals made them
 abbrev pub committed : Lists → Session
 committed lists = record { lines = []; ending = Committed; db = lists.db; changes = lists.made }
 
@@ -128,5 +134,6 @@ module _ (program : Program) where
         | None ↦ with_lines (count_line (length o.found) ∷ []) (played gs last (1 + j) before o.lists o.left w.bytes)
       ])
 
+  -- the session of a script over some lists
   abbrev pub session : Script → Db → Session
   session script db = played script.goals script.last 1 db (record { db = db; made = [] }) script.budget 0

@@ -22,6 +22,7 @@ told_by l (asserta t) = Some (record { what = First; term = t })
 told_by l (assertz t) = Some (record { what = Last; term = t })
 told_by l (delete_at c i) = Some (record { what = Dropped; term = unwrap_or (item_given l c i) true_body })
 
+-- a change, if a test holds
 abbrev pub told_if : Bool → Option Change → Option Change
 told_if false c = None
 told_if true c = c

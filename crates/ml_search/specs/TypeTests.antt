@@ -2,18 +2,22 @@
 use Rattle.std.specs.Prelude.{ℕ, nat_lt, pos, negsuc, Bool, true, false, ◌||◌}
 use Rattle.ml_term.specs.Tree.{Tree, variable, integer, atom, compound}
 
+-- a variable
 abbrev pub is_variable : Tree → Bool
 is_variable (variable n) = true
 is_variable t = false
 
+-- an integer
 abbrev pub is_integer : Tree → Bool
 is_integer (integer z) = true
 is_integer t = false
 
+-- an atom
 abbrev pub is_atom : Tree → Bool
 is_atom (atom f) = true
 is_atom t = false
 
+-- a compound
 abbrev pub is_compound : Tree → Bool
 is_compound (compound f ts) = true
 is_compound t = false

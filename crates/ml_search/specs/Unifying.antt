@@ -32,6 +32,7 @@ arguments_from base ts = substituted_in (λ n. variable (base + n)) (trees_of (a
 abbrev pub trees_under : Map → ℕ → List Term → Trees
 trees_under m base ts = substituted_in (value_of m) (arguments_from base ts)
 
+-- the equation of a pair
 abbrev pub equation_of : Pair → Equation
 equation_of p = (tree_of p.left, tree_of p.right)
 
@@ -56,12 +57,15 @@ state_of bs es = record { left = under (map_of (bindings_of bs)) es; map = map_o
 abbrev pub is_sound : ℕ → Shifted → Bool
 is_sound most s = nat_le s.base most && is_valid (seen s.term.now)
 
+-- the same of arguments
 abbrev pub are_sound_arguments : ℕ → Arguments → Bool
 are_sound_arguments most ts = nat_le ts.base most && are_valid (trees_of (all_seen ts.terms.now))
 
+-- the same of pairs
 abbrev pub are_sound_pairs : ℕ → List Pair → Bool
 are_sound_pairs most ps = list_all (λ p. is_sound most p.left && is_sound most p.right) ps
 
+-- the same of bindings, whose variables have numbers in range
 abbrev pub are_sound_bindings : ℕ → List Binding → Bool
 are_sound_bindings most bs = list_all (λ b. nat_lt b.variable (most + 2 ^ 32) && is_sound most b.to) bs
 

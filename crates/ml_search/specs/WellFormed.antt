@@ -30,6 +30,7 @@ abbrev pub is_goal : Goal → Bool
 is_goal g =
     is_valid g.term && is_callable g.term && is_numbered g.term && list_all (λ e. has e.1 (variables g.term)) g.names && are_rising (map (λ e. e.1) g.names)
 
+-- whether the goal of a script's end, if it has one, is a goal
 abbrev pub is_last : Last → Bool
 is_last commit = true
 is_last abort = true

@@ -17,6 +17,7 @@ outline = in_body (λ t. atom [])
 abbrev pub more_left : ℕ → State → State
 more_left k s = record s { left = s.left + k }
 
+-- an outcome with more inferences left
 abbrev pub with_more_left : ℕ → Outcome → Outcome
 with_more_left k o = record o { left = o.left + k }
 

@@ -22,6 +22,7 @@ arguments t = no_trees
 abbrev pub keyed_arguments : List ℕ → Tree → List Tree
 keyed_arguments keys t = map (λ k. argument k (arguments t)) keys
 
+-- the first of some bits
 abbrev pub first_bit : List Bool → Bool
 first_bit [] = false
 first_bit (b ∷ bs) = b
@@ -56,6 +57,7 @@ abbrev pub are_different : List ℕ → Bool
 are_different [] = true
 are_different (k ∷ ks) = not (has k ks) && are_different ks
 
+-- whether these may be the keys of a declaration: 1 to 8 different numbers from 1 to the arity
 abbrev pub are_keys : ℕ → List ℕ → Bool
 are_keys n keys = nat_le 1 (length keys) && nat_le (length keys) 8 && list_all (λ k. nat_le 1 k && nat_le k n) keys && are_different keys
 

@@ -13,6 +13,7 @@ asked_code t = Some (code t)
 abbrev pub pattern_of : List ℕ → Tree → List (Option (List Bool))
 pattern_of keys head = map asked_code (keyed_arguments keys head)
 
+-- whether two truth values are the same
 abbrev pub same_bit : Bool → Bool → Bool
 same_bit true b = b
 same_bit false true = false
@@ -58,6 +59,7 @@ abbrev pub may_hold_at : Option (List Bool) → List Bool → Bool
 may_hold_at None found = true
 may_hold_at (Some asked) found = begins found asked || begins found variable_code
 
+-- the keyed places of a prefix from i on
 abbrev pub may_hold_from : ℕ → ℕ → List (Option (List Bool)) → List Bool → Bool
 may_hold_from a i [] prefix = true
 may_hold_from a i (p ∷ ps) prefix = may_hold_at p (attribute a i prefix) && may_hold_from a (i + 1) ps prefix

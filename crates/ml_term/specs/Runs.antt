@@ -8,10 +8,12 @@ pub data Next (S R : Type 0) : Type 0 where
   ask : S → (R → R ⊎ S) → Next S R
 
 module _ {S R : Type 0} (turn : S → Next S R) (first second : S → ℕ) (never : S → R) where
+  -- a result, or what a state gives by `lower`
   abbrev pub on : (S → R) → R ⊎ S → R
   on lower (inl r) = r
   on lower (inr t) = lower t
 
+  -- what a turn gives: its result, its next state by `lower` where the first number fell and else by `again`, or what follows the state that is run by itself
   abbrev pub followed : (S → R) → (S → R) → ℕ → Next S R → R
   followed lower again n (now (inl r)) = r
   followed lower again n (now (inr t)) = elim (nat_lt (first t) n) [ true ↦ lower t | false ↦ again t ]
@@ -27,5 +29,6 @@ module _ {S R : Type 0} (turn : S → Next S R) (first second : S → ℕ) (neve
   run_below zero s = never s
   run_below (suc n) s = run_within (run_below n) (suc (second s)) s
 
+  -- what a state gives, turn after turn
   unfoldable pub run : S → R
   run s = run_below (suc (first s)) s

@@ -10,12 +10,15 @@ use Rattle.ml_term.specs.Tree.{Tree, Trees, variable, integer, atom, compound, n
 abbrev pub comma : ℕ
 comma = 44
 
+-- a small letter
 abbrev pub is_lowercase : ℕ → Bool
 is_lowercase b = nat_le 97 b && nat_le b 122
 
+-- a capital letter
 abbrev pub is_uppercase : ℕ → Bool
 is_uppercase b = nat_le 65 b && nat_le b 90
 
+-- a decimal digit
 abbrev pub is_digit : ℕ → Bool
 is_digit b = nat_le 48 b && nat_le b 57
 
@@ -27,6 +30,7 @@ is_alphanumeric b = is_lowercase b || is_uppercase b || is_digit b || (b == 95)
 abbrev pub symbols : List ℕ
 symbols = codes "+-*/\\^<>=~:.?@#&$"
 
+-- a symbol character
 abbrev pub is_symbol : ℕ → Bool
 is_symbol b = has b symbols
 
@@ -69,6 +73,7 @@ atom_text f = cond (is_bare f) f (39 ∷ flat_map quoted_byte f ++ 39 ∷ [])
 abbrev pub dot : List ℕ
 dot = codes "."
 
+-- the name of the empty list
 abbrev pub nil : List ℕ
 nil = codes "[]"
 

@@ -70,6 +70,7 @@ abbrev pub turn_of : List Equation → Map → Next Solving (Option Map)
 turn_of [] m = now (inl (Some m))
 turn_of (e ∷ es) m = after (step e.0 e.1) es m
 
+-- a turn of unification
 abbrev pub turn : Solving → Next Solving (Option Map)
 turn s = turn_of s.left s.map
 
@@ -82,6 +83,7 @@ distinct (n ∷ ns) = (if has n ns then 0 else 1) + distinct ns
 abbrev pub variables_left : Solving → ℕ
 variables_left s = distinct (flat_map (λ e. variables e.0 ++ variables e.1) s.left)
 
+-- how many nodes some equations have
 abbrev pub nodes_in : List Equation → ℕ
 nodes_in [] = 0
 nodes_in (e ∷ es) = nodes e.0 + nodes e.1 + nodes_in es

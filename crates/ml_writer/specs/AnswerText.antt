@@ -13,6 +13,7 @@ Bindings = List (List ℕ × Tree)
 abbrev pub names_of : Bindings → List (List ℕ × ℕ)
 names_of bs = map (λ b. (b.0, 0)) bs
 
+-- the terms of bindings
 abbrev pub terms_of : Bindings → List Tree
 terms_of bs = map (λ b. b.1) bs
 

@@ -13,6 +13,7 @@ abbrev pub behind : List ℕ → List ℕ → List ℕ
 behind [] bytes = bytes
 behind (n ∷ ns) bytes = behind ns (drop n bytes)
 
+-- what the bytes and the lengths of the lines are
 abbrev pub output_of : List ℕ → List ℕ → ℕ → Output
 output_of bytes lengths answers = record { lines = lines_in lengths bytes; unfinished = behind lengths bytes; answer_bytes = answers }
 

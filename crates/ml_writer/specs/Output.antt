@@ -9,6 +9,7 @@ pub record Output : Type 0 where
   pub unfinished : List ℕ
   pub answer_bytes : ℕ
 
+-- nothing was written
 abbrev pub no_output : Output
 no_output = record { lines = []; unfinished = []; answer_bytes = 0 }
 

@@ -7,6 +7,7 @@ use Rattle.ml_writer.specs.AnswerText.{line_of_answer, bindings_seen}
 use Rattle.ml_writer.specs.declared.piece.Piece.{Piece}
 use Rattle.ml_writer.specs.declared.piece.Piece.TheVariants as P
 
+-- the text of a term, or a line
 abbrev pub piece_text : Piece → List ℕ
 piece_text (P.Term t) = text_of (seen t.now) []
 piece_text (P.Goal j) = goal_line j

@@ -4,7 +4,7 @@ use Rattle.std.proofs.lemmas.Result.{err_from_is_err_and, MatchResult-weaker}
 use Rattle.ml_search.specs.Program.{Program}
 use Rattle.ml_search.specs.ProgramSeen.{program_seen}
 use Rattle.ml_term.specs.Tree.{Tree}
-use Rattle.ml_reader.specs.ItemsSeen.{items_seen}
+use Rattle.ml_search.specs.ItemsSeen.{items_seen}
 use Rattle.ml_reader.specs.Lexemes.{Written}
 use Rattle.ml_reader.specs.Rules.{AreRules, RulesGoWrong, RulesHaveFault, in_text, in_rules}
 use Rattle.ml_reader.specs.Seen.{read_seen}

@@ -3,8 +3,8 @@ use Rattle.std.proofs.lemmas.List.{nil_from_length}
 use Rattle.std.proofs.lemmas.Result.{err_from_is_err_and}
 use Rattle.ml_search.specs.ClauseSeen.{clauses_seen}
 use Rattle.ml_search.specs.WellFormed.{are_undeclared}
-use Rattle.ml_reader.specs.ItemsSeen.{items_seen}
-use Rattle.ml_reader.specs.Rules.{are_items}
+use Rattle.ml_search.specs.ItemsSeen.{items_seen}
+use Rattle.ml_search.specs.Loading.{are_items}
 use Rattle.ml_reader.specs.Seen.{read_seen}
 use Rattle.ml_reader.proofs.OneAfterAnother.{handed_on}
 use Rattle.ml_reader.proofs.PartsKept.{clauses_kept, items_kept}

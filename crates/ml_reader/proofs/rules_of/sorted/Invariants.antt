@@ -1,6 +1,6 @@
 use Rattle.std.proofs.Common.{map}
 use Rattle.ml_search.specs.ClauseSeen.{clauses_seen}
-use Rattle.ml_reader.specs.ItemsSeen.{items_seen}
+use Rattle.ml_search.specs.ItemsSeen.{items_seen}
 use Rattle.ml_reader.specs.Seen.{read_seen}
 use Rattle.ml_reader.proofs.Sorting.{SoFar}
 use Rattle.ml_reader.proofs.rules_of.sorted.Given as goal

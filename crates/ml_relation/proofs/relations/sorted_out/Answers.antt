@@ -1,7 +1,7 @@
 use Rattle.std.proofs.Common.{◌≡◌, [], length, replicate, sym, ap, ◌∙◌, subst, arith}
 use Rattle.std.proofs.lemmas.List.{nil_from_length}
 use Rattle.std.specs.Vec.Iter.{into_iter_items}
-use Rattle.ml_relation.specs.Items.{items_seen}
+use Rattle.ml_search.specs.ItemsSeen.{items_seen}
 use Rattle.ml_relation.specs.Lists.{all_trees}
 use Rattle.ml_relation.proofs.Gathering.{AllItems, filled, all_items, all_gathered, within}
 use Rattle.ml_relation.proofs.ListsPut.{as_many}

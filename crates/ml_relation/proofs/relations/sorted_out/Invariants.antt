@@ -1,6 +1,6 @@
 use Rattle.std.proofs.Common.{◌≡◌, [], length, replicate}
 use Rattle.std.specs.Vec.Iter.{into_iter_items}
-use Rattle.ml_relation.specs.Items.{items_seen}
+use Rattle.ml_search.specs.ItemsSeen.{items_seen}
 use Rattle.ml_relation.specs.Lists.{all_trees}
 use Rattle.ml_relation.proofs.Gathering.{AllItems, filled}
 use Rattle.ml_relation.proofs.relations.sorted_out.Given as goal

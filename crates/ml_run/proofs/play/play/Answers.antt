@@ -6,7 +6,7 @@ use Rattle.ml_outside.specs.Written.{Appended, AppendedFront}
 use Rattle.ml_search.specs.Db.{loaded}
 use Rattle.ml_search.specs.Loading.{first_lists}
 use Rattle.ml_search.specs.ProgramSeen.{script_seen}
-use Rattle.ml_relation.specs.Items.{items_seen}
+use Rattle.ml_search.specs.ItemsSeen.{items_seen}
 use Rattle.ml_relation.specs.Lists.{lists_of}
 use Rattle.ml_run.specs.Entries.{contents, AreBlocks}
 use Rattle.ml_run.specs.Seen.{rules_seen, scripts_seen}

@@ -1,5 +1,6 @@
 use Rattle.std.proofs.Common.{sym, ap, ◌∙◌, subst}
-use Rattle.ml_relation.specs.Items.{AreSized, in_order, items_seen}
+use Rattle.ml_relation.specs.Items.{AreSized, in_order}
+use Rattle.ml_search.specs.ItemsSeen.{items_seen}
 use Rattle.ml_relation.proofs.Gathering.{all_items, are_sized, ordered}
 use Rattle.ml_relation.proofs.relations.Relations.from_items.Goals as goal
 

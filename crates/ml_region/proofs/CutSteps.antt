@@ -1,22 +1,23 @@
 -- The steps of a cut: a spare page, an entry for it, and the items that go over.
 use Rattle.std.proofs.Common.{◌≡◌, ℕ, zero, suc, ◌+◌, ◌-◌, ◌<◌, ◌≤◌, ◌==◌, Bool, true, false, cond, nat_lt, inl, inr, List, [], ◌∷◌, ◌++◌, length, get_or, set, take, refl, sym, ap, subst, ◌∙◌, arith, length-append}
-use Rattle.std.specs.Prelude.{Result, Ok, Err, OnErr}
+use Rattle.std.specs.Prelude.{Result, Ok, Err, OnErr, Contains}
 use Rattle.std.specs.List.{insert}
 use Rattle.std.proofs.Math.ListN.{length-set}
-use Rattle.std.proofs.lemmas.List.{length-map, length-take-le, get_or-set_other}
+use Rattle.std.proofs.lemmas.List.{length-take-le, get_or-set_other, get_or_read}
 use Rattle.std.proofs.lemmas.List.Edits.{length-insert, get_or-insert_at}
 use Rattle.ml_region.proofs.Lists.{map_insert}
 use Rattle.std.proofs.lemmas.Bool.{cases_eq, eq-eqb, eqb-true, ne_eqb, lt-ltb, le-ltb, ltb-true, ltb-false}
 use Rattle.std.proofs.lemmas.List.Sums.{sum_by_push}
 use Rattle.ml_region.specs.Prefixes.{bits_at}
-use Rattle.ml_region.specs.Listing.{Entry, IsNewPrefix, IsNewSlot, IsWithEntry, IsPrefixOfSlot, prefixes_of, slots_of, prefix_at, slot_at}
-use Rattle.ml_region.specs.Regions.{Region, region_at, items_at, keys_at, IsWellPlaced}
+use Rattle.ml_region.specs.Listing.{Entry, IsListing, IsNewPrefix, IsNewSlot, IsWithEntry, prefixes_of, slot_at}
+use Rattle.ml_region.specs.Regions.{Region, region_at, items_at, keys_of, keys_at, IsWellPlaced}
 use Rattle.ml_region.specs.Changes.{IsCut, items_below, items_beside}
 use Rattle.ml_region.specs.Stored.{page_at, regions_of, frees, uses, AreShared, IsStored}
 use Rattle.ml_region.specs.declared.item.Item.{Item}
 use Rattle.ml_region.proofs.StoredRegions.{regions_length, regions_prefixes, prefixes_length}
-use Rattle.ml_region.proofs.Found.{items_of_page}
+use Rattle.ml_region.proofs.Found.{items_of_page, key_of_item}
 use Rattle.ml_region.proofs.Standing.{keys_length}
+use Rattle.ml_region.proofs.Listing.{listing_insert}
 use Rattle.ml_region.proofs.Cutting.{IsCutting, cutting_is_new}
 use Rattle.ml_region.proofs.CutStored.{free_within, free_is_new, set_unused, same_pages, cut_stored}
 
@@ -136,18 +137,29 @@ cut_end entries pages free reserved slot from i key p new after rest room stored
           (subst (λ ps. IsCut (regions_of entries empty) i p (regions_of (insert entries with_entry.place (record { prefix = p; slot = slot })) ps)) (sym new_is) both.1)),
     )
 
--- the prefix with the new slot is the new one
-pub own_prefix : (entries : List Entry) (p : List Bool) (slot : ℕ) (after : List Entry) (q : List Bool) → IsWithEntry entries (record { prefix = p; slot = slot }) after
-    → IsPrefixOfSlot after slot q → q ≡ p
-own_prefix entries p slot after q w of =
-    let e : Entry = record { prefix = p; slot = slot } in
-    let place : ℕ = w.place in
-    let h : place ≤ length entries = omega (arith, w.fits.within, prefixes_length entries) in
-    let inside : place < length after = omega (arith, ap length w.same, length-insert entries place e h) in
-    let slots : slot_at after place ≡ slot =
-    ap (λ (es : List Entry). slot_at es place) w.same ∙ ap (λ ss. get_or ss place 0) (map_insert (λ (e : Entry). e.slot) entries place e)
-    ∙ get_or-insert_at (slots_of entries) place slot 0 (omega (arith, length-map entries (λ (e : Entry). e.slot))) in
-    let prefixes : prefix_at after place ≡ p =
-    ap (λ (es : List Entry). prefix_at es place) w.same ∙ ap (λ ps. get_or ps place []) (map_insert (λ (e : Entry). e.prefix) entries place e)
-    ∙ get_or-insert_at (prefixes_of entries) place p [] w.fits.within in
-    of place inside slots ∙ prefixes
+-- ---- the prefixes once there is an entry more
+
+pub length_with : (entries : List Entry) (e : Entry) (after : List Entry) → IsWithEntry entries e after → length after ≡ length entries + 1
+length_with entries e after w = ap length w.same ∙ length-insert entries w.place e (omega (arith, w.fits.within, prefixes_length entries))
+
+pub listing_with : (entries : List Entry) (e : Entry) (after : List Entry) → IsListing entries → IsNewSlot entries e.slot → IsWithEntry entries e after → IsListing after
+listing_with entries e after listing new w = subst IsListing (sym w.same) (listing_insert entries e w.place listing w.fits new)
+
+-- the new one is among them
+pub among_with : (entries : List Entry) (e : Entry) (after : List Entry) → IsWithEntry entries e after → Contains (prefixes_of after) e.prefix
+among_with entries e after w =
+    let same : prefixes_of after ≡ insert (prefixes_of entries) w.place e.prefix =
+    ap prefixes_of w.same ∙ map_insert (λ (e : Entry). e.prefix) entries w.place e in (
+      w.place,
+      omega (arith, ap length same, length-insert (prefixes_of entries) w.place e.prefix w.fits.within, w.fits.within),
+      ap (λ ps. get_or ps w.place e.prefix) same ∙ get_or-insert_at (prefixes_of entries) w.place e.prefix e.prefix w.fits.within,
+    )
+
+-- the key of an item of a page that stays as it was
+pub same_key : (pages more : List (List Item)) (from j : ℕ) (p q : List Item) (x y : Item) → from < length pages → from < length more → page_at more from ≡ page_at pages from
+    → p ≡ get_or pages from p → q ≡ get_or more from q → j < length p → x ≡ get_or p j x → y ≡ get_or q j y → y.key.bits ≡ x.key.bits
+same_key pages more from j p q x y h g same is_p is_q within is_x is_y =
+    let alike : p ≡ q = get_or_read pages from p h is_p [] ∙ sym same ∙ sym (get_or_read more from q g is_q []) in
+    let there : j < length q = subst (λ xs. j < length xs) alike within in
+    ap (λ (i : Item). i.key.bits) is_y ∙ sym (key_of_item q j y there) ∙ ap (λ xs. bits_at (keys_of xs) j) (sym alike) ∙ key_of_item p j x within
+    ∙ ap (λ (i : Item). i.key.bits) (sym is_x)

@@ -3,9 +3,9 @@ use Rattle.std.proofs.Common.{◌≡◌, ℕ, zero, suc, ◌+◌, ◌<◌, ◌�
 use Rattle.std.specs.List.{insert, remove}
 use Rattle.std.proofs.lemmas.List.{length-map, take_all, drop_all, append-nil}
 use Rattle.std.proofs.lemmas.List.Edits.{length-insert, length-remove}
-use Rattle.ml_region.specs.Prefixes.{IsPlaceFor}
+use Rattle.ml_region.specs.Prefixes.{IsPlaceFor, IsLastUpTo}
 use Rattle.ml_region.specs.Listing.{Entry, IsListing, IsNewPrefix, IsNewSlot, prefixes_of, prefix_at, slot_at}
-use Rattle.ml_region.specs.Kept.{kept_entries, IsKept, IsLastUpTo}
+use Rattle.ml_region.specs.Kept.{kept_entries, IsKept}
 use Rattle.ml_region.specs.declared.kept.Kept.{Kept}
 use Rattle.ml_region.proofs.Lists.{map_insert, map_remove, in_insert, in_remove}
 use Rattle.ml_region.proofs.Lists.InInsert.{in_front, itself, behind}

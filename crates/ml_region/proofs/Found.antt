@@ -7,8 +7,8 @@ use Rattle.ml_region.specs.Listing.{Entry, slot_at, prefix_at, prefixes_of}
 use Rattle.ml_region.specs.Regions.{Region, region_prefixes, region_at, items_at, keys_of, keys_at, IsWellPlaced, HasNoKey, IsFound}
 use Rattle.ml_region.specs.Stored.{page_at, regions_of, IsStored}
 use Rattle.ml_region.specs.declared.item.Item.{Item}
-use Rattle.ml_region.proofs.Owners.{one_owner, one_place}
-use Rattle.ml_region.proofs.StoredRegions.{region_is, regions_prefixes, regions_length, prefixes_length, region_prefixes_length, prefix_of_region}
+use Rattle.ml_region.proofs.Owners.{one_owner}
+use Rattle.ml_region.proofs.StoredRegions.{region_is, regions_prefixes, regions_length, prefixes_length}
 
 -- the items of a region are those of its page
 pub items_of_page : (entries : List Entry) (pages : List (List Item)) (i : ℕ) → i < length entries → items_at (regions_of entries pages) i ≡ page_at pages (slot_at entries i)
@@ -54,12 +54,6 @@ pub page_rising : (entries : List Entry) (pages : List (List Item)) (free : List
     → IsRising (keys_of (page_at pages (slot_at entries i)))
 page_rising entries pages free reserved i stored h =
     subst (λ xs. IsRising (keys_of xs)) (items_of_page entries pages i h) (stored.placed.ordered i (omega (arith, regions_length entries pages)))
-
--- the empty prefix is that of the first region alone
-pub root_alone : (regions : List Region) (i : ℕ) → IsWellPlaced regions → i < length regions → (region_at regions i).prefix ≡ [] → i ≡ 0
-root_alone regions i placed h e =
-    one_place (region_prefixes regions) i 0 placed.rising (omega (arith, region_prefixes_length regions)) (omega (arith, region_prefixes_length regions))
-    (prefix_of_region regions i ∙ e ∙ sym placed.root ∙ sym (prefix_of_region regions 0))
 
 -- the key of the item at a place
 pub key_of_item : (items : List Item) (j : ℕ) (x : Item) → j < length items → bits_at (keys_of items) j ≡ (get_or items j x).key.bits

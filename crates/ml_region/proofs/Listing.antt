@@ -5,7 +5,7 @@ use Rattle.std.specs.declared.cmp.Ordering.TheVariants.{Less}
 use Rattle.std.proofs.lemmas.List.{length-map}
 use Rattle.std.proofs.lemmas.List.Edits.{length-insert, length-remove, get_or-insert_below, get_or-remove_below}
 use Rattle.ml_term.specs.Keys.{key_cmp}
-use Rattle.ml_region.specs.Prefixes.{bits_at, IsRising, IsPlaceFor}
+use Rattle.ml_region.specs.Prefixes.{bits_at, AreRooted, IsRising, IsPlaceFor}
 use Rattle.ml_region.specs.Listing.{Entry, IsListing, IsNewPrefix, IsNewSlot, prefixes_of, slots_of, prefix_at, slot_at}
 use Rattle.ml_region.proofs.Lists.{map_insert, map_remove, in_insert, in_remove, rising_insert, rising_remove}
 use Rattle.ml_region.proofs.Lists.InInsert.{in_front, itself, behind}
@@ -13,6 +13,9 @@ use Rattle.ml_region.proofs.Lists.InRemove.{stays, moves}
 
 pub prefixes_length : (entries : List Entry) → length (prefixes_of entries) ≡ length entries
 prefixes_length entries = length-map entries (λ (e : Entry). e.prefix)
+
+pub listing_rooted : (entries : List Entry) → IsListing entries → AreRooted (prefixes_of entries)
+listing_rooted entries listing = record { some = omega (arith, listing.some, prefixes_length entries); root = listing.root; rising = listing.rising }
 
 slots_length : (entries : List Entry) → length (slots_of entries) ≡ length entries
 slots_length entries = length-map entries (λ (e : Entry). e.slot)

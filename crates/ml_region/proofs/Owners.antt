@@ -7,8 +7,7 @@ use Rattle.std.proofs.lemmas.Bool.{cases_lt}
 use Rattle.ml_bits.specs.BitList.{Begins, IsCommonLength}
 use Rattle.ml_bits.proofs.OrderLaws.{itself_cmp, begins_itself, begins_within, begins_trans, begins_shorter, difference_cmp, same_from_cmp}
 use Rattle.ml_term.specs.Keys.{key_cmp}
-use Rattle.ml_region.specs.Prefixes.{bits_at, IsRising, IsPlaceFor, IsOwner, IsParent}
-use Rattle.ml_region.specs.Kept.{IsLastUpTo}
+use Rattle.ml_region.specs.Prefixes.{bits_at, IsRising, IsPlaceFor, IsLastUpTo, IsOwner, IsParent}
 use Rattle.ml_region.proofs.KeyOrder.{less_trans, greater_from_less, less_from_greater, not_greater, less_is_not_greater, less_is_not_equal, beginning_upto, longer_after, past_front, apart_front}
 
 -- ---- the last place up to a key

@@ -4,17 +4,17 @@ use Rattle.std.specs.Prelude.{Contains}
 use Rattle.std.specs.List.{insert, remove}
 use Rattle.std.proofs.Math.ListN.{length-set}
 use Rattle.std.proofs.lemmas.List.{length-map, map-append, length-take-le, get_or-set_same}
-use Rattle.std.proofs.lemmas.List.Edits.{length-insert, length-remove, get_or-insert_at, get_or-remove_below}
+use Rattle.std.proofs.lemmas.List.Edits.{length-remove, get_or-remove_below}
 use Rattle.std.proofs.lemmas.List.Elements.{Contains-append_left, Contains-append_right}
 use Rattle.std.proofs.lemmas.List.Sorted.{IsPermutation-map, Contains-permutation}
 use Rattle.ml_region.specs.Prefixes.{IsParent}
-use Rattle.ml_region.specs.Listing.{Entry, HasSlot, IsSlotOfParent, IsWithEntry, prefixes_of, slots_of, prefix_at, slot_at}
+use Rattle.ml_region.specs.Listing.{Entry, IsSlotOfParent, IsWithEntry, prefixes_of, slots_of, prefix_at, slot_at}
 use Rattle.ml_region.specs.Regions.{Region, region_prefixes, region_at, items_at, keys_of, keys_at}
 use Rattle.ml_region.specs.Changes.{IsMerged, IsCut, IsRecut, items_below, items_beside}
 use Rattle.ml_region.specs.Moves.{IsParted}
 use Rattle.ml_region.specs.Stored.{page_at, regions_of, IsStored}
 use Rattle.ml_region.specs.declared.item.Item.{Item}
-use Rattle.ml_region.proofs.Lists.{map_insert, map_remove}
+use Rattle.ml_region.proofs.Lists.{map_remove}
 use Rattle.ml_region.proofs.StoredRegions.{regions_length, slot_within}
 use Rattle.ml_region.proofs.Owners.{one_parent}
 use Rattle.ml_region.proofs.Found.{items_of_page, prefix_of_entry}
@@ -24,18 +24,6 @@ use Rattle.ml_region.proofs.MergeSteps.{parent_is, parent_in_front, parent_withi
 
 recut_of : (regions : List Region) (i : ℕ) (p : List Bool) (middle new : List Region) (q : ℕ) (m : IsMerged regions i middle) → m.parent ≡ q → IsCut middle q p new → IsRecut regions i p new
 recut_of regions i p middle new q m e cut = record { middle = middle; merged = m; cut = subst (λ k. IsCut middle k p new) (sym e) cut }
-
--- the new prefix has its slot
-pub has_new_slot : (entries : List Entry) (p : List Bool) (slot : ℕ) (after : List Entry) → IsWithEntry entries (record { prefix = p; slot = slot }) after → HasSlot after slot
-has_new_slot entries p slot after w =
-    let e : Entry = record { prefix = p; slot = slot } in
-    let h : w.place ≤ length entries = omega (arith, w.fits.within, length-map entries (λ (e : Entry). e.prefix)) in
-    record {
-      place = w.place;
-      within = omega (arith, ap length w.same, length-insert entries w.place e h);
-      same = ap (λ (es : List Entry). slot_at es w.place) w.same ∙ ap (λ ss. get_or ss w.place 0) (map_insert (λ (e : Entry). e.slot) entries w.place e)
-          ∙ get_or-insert_at (slots_of entries) w.place slot 0 (omega (arith, length-map entries (λ (e : Entry). e.slot)));
-    }
 
 pub parted_length : (pages : List (List Item)) (from to : ℕ) (p : List Bool) (new : List (List Item)) → IsParted pages from to p new → length new ≡ length pages
 parted_length pages from to p new parted =

@@ -1,6 +1,6 @@
 -- Lists of bit lists in rising order, and which of some prefixes owns a key. The code searches by halves; here a place is one of which something holds.
-use Rattle.std.specs.Prelude.{ℕ, ◌<◌, ◌≤◌, ◌≡◌, Bool, List, [], length, slice_index_or}
-use Rattle.std.specs.declared.cmp.Ordering.TheVariants.{Less}
+use Rattle.std.specs.Prelude.{ℕ, ◌<◌, ◌≤◌, ◌≡◌, ◌≢◌, Bool, List, [], length, slice_index_or}
+use Rattle.std.specs.declared.cmp.Ordering.TheVariants.{Less, Greater}
 use Rattle.ml_bits.specs.BitList.{Begins}
 use Rattle.ml_term.specs.Keys.{key_cmp}
 
@@ -12,11 +12,23 @@ bits_at lists i = slice_index_or lists i []
 pub record IsRising (lists : List (List Bool)) : Type 0 where
   pub rises : (i j : ℕ) → i < j → j < length lists → key_cmp (bits_at lists i) (bits_at lists j) ≡ Less
 
+-- some prefixes rise from the empty one on
+pub record AreRooted (prefixes : List (List Bool)) : Type 0 where
+  pub some : 0 < length prefixes
+  pub root : bits_at prefixes 0 ≡ []
+  pub rising : IsRising prefixes
+
 -- the place where a key belongs among rising lists: those in front of it come before the key, and the key comes before the others
 pub record IsPlaceFor (lists : List (List Bool)) (key : List Bool) (place : ℕ) : Type 0 where
   pub within : place ≤ length lists
   pub below : (i : ℕ) → i < place → key_cmp (bits_at lists i) key ≡ Less
   pub above : (i : ℕ) → place ≤ i → i < length lists → key_cmp key (bits_at lists i) ≡ Less
+
+-- the place of the last of some rising lists that does not come after a key
+pub record IsLastUpTo (lists : List (List Bool)) (key : List Bool) (place : ℕ) : Type 0 where
+  pub within : place < length lists
+  pub upto : (i : ℕ) → i ≤ place → key_cmp (bits_at lists i) key ≢ Greater
+  pub above : (i : ℕ) → place < i → i < length lists → key_cmp (bits_at lists i) key ≡ Greater
 
 -- the place of the longest of some prefixes that begins a key
 pub record IsOwner (prefixes : List (List Bool)) (key : List Bool) (place : ℕ) : Type 0 where

@@ -9,7 +9,7 @@ ghost use Rattle.ml_region.specs.Stored.{AreShared, page_at};
 use crate::directory::{Directory, Slot};
 use crate::moves::move_below;
 use crate::page::Page;
-use crate::places::slot_of;
+use crate::places::{prefix_among, slot_of};
 use crate::regions::Regions;
 use ml_bits::OutOfMemory;
 
@@ -45,14 +45,16 @@ impl<D: Directory> Regions<D> {
         ensures err { OnErr result (self.new.regions ≡ self.old.regions) }
         ensures room { self.new.room ≡ self.old.room }
     {
+        let len = self.len();
         let from = slot_of(&self.dir, i);
         let prefix = self.pages[from].item(j).key.prefix(n)?;
         make_spare(&mut self.pages, &mut self.free)?;
         let to = self.free[self.free.len() - 1];
         self.dir.add(prefix, to)?;
         let _taken = self.free.pop();
+        let added = prefix_among(&self.dir, len + 1, &self.pages[from].item(j).key, n);
         self.pages[to].clear();
-        move_below(&mut self.pages, from, to, self.dir.prefix_of(to));
+        move_below(&mut self.pages, from, to, added);
         Ok(())
     }
 }

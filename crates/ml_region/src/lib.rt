@@ -18,8 +18,10 @@ mod moves;
 mod order;
 mod page;
 mod places;
+mod prefixes;
 mod recut;
 mod regions;
+mod searches;
 mod sorted_dir;
 #[cfg(test)]
 mod tests;

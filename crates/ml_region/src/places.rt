@@ -1,11 +1,11 @@
 //! Places and slots in a directory.
-ghost use Rattle.std.specs.Prelude.{◌≡◌, ◌<◌, length};
-ghost use Rattle.ml_region.specs.Listing.{HasSlot, IsListing, IsSlotOfParent, prefix_at, slot_at};
-ghost use Rattle.ml_term.specs.Keys.{key_cmp};
+ghost use Rattle.std.specs.Prelude.{◌≡◌, ◌<◌, ◌≤◌, length, take, Contains};
+ghost use Rattle.ml_region.specs.Listing.{IsListing, IsSlotOfParent, prefix_at, prefixes_of, slot_at};
 
 use crate::directory::{Directory, Slot};
+use crate::prefixes::DirectoryPrefixes;
+use crate::searches::last_up_to;
 use ml_bits::Bits;
-use std::cmp::Ordering;
 
 /// The slot of the prefix at a place: a prefix is its own owner.
 pub(crate) fn slot_of<D: Directory>(dir: &D, i: usize) -> Slot
@@ -19,37 +19,24 @@ pub(crate) fn slot_of<D: Directory>(dir: &D, i: usize) -> Slot
     }
 }
 
-/// The order of the prefix at a place and a list.
-fn order_at<D: Directory>(dir: &D, i: usize, list: &Bits) -> Ordering
-    requires { i < length (D.listing dir.now).entries }
-    ensures { result ≡ key_cmp (prefix_at (D.listing dir.now).entries i) list.now.bits }
-{
-    match dir.prefix_at(i) {
-        Some(prefix) => prefix.cmp(list),
-        None => unreachable!(),
-    }
-}
-
-/// The place, among `len` prefixes, of the prefix that has a slot.
-pub(crate) fn place_of<D: Directory>(dir: &D, len: usize, slot: Slot) -> usize
+/// The prefix that is the first `n` bits of a key, among `len` prefixes.
+pub(crate) fn prefix_among<'a, D: Directory>(
+    dir: &'a D,
+    len: usize,
+    key: &Bits,
+    n: usize,
+) -> &'a Bits
     requires listing { IsListing (D.listing dir.now).entries }
     requires len { len ≡ length (D.listing dir.now).entries }
-    requires slot { HasSlot (D.listing dir.now).entries slot }
-    ensures within { result < len }
-    ensures same { slot_at (D.listing dir.now).entries result ≡ slot }
+    requires within { n ≤ length key.now.bits }
+    requires there { Contains (prefixes_of (D.listing dir.now).entries) (take n key.now.bits) }
+    ensures { result.now.bits ≡ take n key.now.bits }
 {
-    let prefix = dir.prefix_of(slot);
-    let mut low = 0;
-    let mut high = len;
-    'halves: while high - low > 1 {
-        let mid = low + (high - low) / 2;
-        if order_at(dir, mid, prefix).is_gt() {
-            high = mid;
-        } else {
-            low = mid;
-        }
+    let place = last_up_to(&DirectoryPrefixes { dir, len }, key, n);
+    match dir.prefix_at(place) {
+        Some(prefix) => prefix,
+        None => unreachable!(),
     }
-    low
 }
 
 /// The slot of the parent of the prefix at a place that is not the first.

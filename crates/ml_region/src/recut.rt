@@ -7,7 +7,7 @@ ghost use Rattle.ml_region.specs.Regions.{items_at, keys_at, region_at, region_p
 use crate::directory::Directory;
 use crate::limits::MOST_ITEMS;
 use crate::moves::pour_and_part;
-use crate::places::{parent_slot, slot_of};
+use crate::places::{parent_slot, prefix_among, slot_of};
 use crate::regions::Regions;
 
 impl<D: Directory> Regions<D> {
@@ -29,10 +29,13 @@ impl<D: Directory> Regions<D> {
         ensures regions { IsRecut self.old.regions i (take n (bits_at (keys_at self.old.regions r) j)) self.new.regions }
         ensures room { self.new.room ≡ self.old.room }
     {
+        let len = self.len();
         let from = slot_of(&self.dir, i);
         let to = parent_slot(&self.dir, i);
         let source = slot_of(&self.dir, r);
-        self.dir.rename(i, &self.pages[source].item(j).key, n);
-        pour_and_part(&mut self.pages, from, to, self.dir.prefix_of(from));
+        let key = &self.pages[source].item(j).key;
+        self.dir.rename(i, key, n);
+        let renamed = prefix_among(&self.dir, len, key, n);
+        pour_and_part(&mut self.pages, from, to, renamed);
     }
 }

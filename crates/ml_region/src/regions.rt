@@ -1,13 +1,15 @@
 //! The regions of a file, and what can be read of them.
 ghost use Rattle.std.specs.Prelude.{◌≡◌, ◌<◌, [], ◌∷◌, length, max, slice_index_or, IfOk, MatchOption, OnErr, OnOk};
-ghost use Rattle.ml_region.specs.Listing.{only_root};
-ghost use Rattle.ml_region.specs.Prefixes.{IsOwner, IsParent};
+ghost use Rattle.ml_region.specs.Listing.{only_root, prefixes_of};
+ghost use Rattle.ml_region.specs.Prefixes.{AreRooted, IsOwner, IsParent};
 ghost use Rattle.ml_region.specs.Regions.{HasNoKey, IsFound, IsWellPlaced, empty_region, items_at, region_at, region_prefixes};
 
 use crate::directory::{Directory, Slot};
 use crate::item::Item;
 use crate::page::Page;
-use crate::places::{place_of, slot_of};
+use crate::places::slot_of;
+use crate::prefixes::DirectoryPrefixes;
+use crate::searches::owner_within;
 use ml_bits::{Bits, OutOfMemory};
 use std::alloc::Global;
 use std::marker::Model;
@@ -70,6 +72,17 @@ impl<D: Directory> Regions<D> {
         }
     }
 
+    /// The prefixes of the regions, for a search.
+    fn prefixes(&self) -> DirectoryPrefixes<'_, D>
+        ensures same { prefixes_of (D.listing result.dir.now).entries ≡ region_prefixes self.now.regions }
+        ensures rooted { AreRooted (region_prefixes self.now.regions) }
+    {
+        DirectoryPrefixes {
+            dir: &self.dir,
+            len: self.len(),
+        }
+    }
+
     /// The page of a region.
     fn page(&self, i: usize) -> &Page
         requires { i < length self.now.regions }
@@ -99,7 +112,7 @@ impl<D: Directory> Regions<D> {
     pub fn owner_of(&self, key: &Bits) -> usize
         ensures { IsOwner (region_prefixes self.now.regions) key.now.bits result }
     {
-        place_of(&self.dir, self.len(), self.dir.owner(key))
+        owner_within(&self.prefixes(), key, key.len())
     }
 
     /// The parent of a region: the one with the longest shorter prefix that begins its own. The empty prefix alone has none.
@@ -108,8 +121,12 @@ impl<D: Directory> Regions<D> {
         ensures { MatchOption result (i ≡ 0)
             (λ parent. IsParent (region_prefixes self.now.regions) (region_at self.now.regions i).prefix parent) }
     {
-        let slot = self.dir.parent(self.prefix(i))?;
-        Some(place_of(&self.dir, self.len(), slot))
+        let prefixes = self.prefixes();
+        let prefix = self.prefix(i);
+        if prefix.is_empty() {
+            return None;
+        }
+        Some(owner_within(&prefixes, prefix, prefix.len() - 1))
     }
 
     /// The item that has a key. There is none exactly where no item has it.

@@ -3,12 +3,13 @@ ghost use Rattle.std.specs.Prelude.{◌≡◌, IfOk};
 ghost use Rattle.ml_region.specs.Listing.{only_root};
 
 use crate::directory::{Directory, Slot};
-use crate::kept::{Kept, give_room, last_up_to, owner_within, place_of_slot};
+use crate::kept::{Kept, give_room, place_of_slot};
+use crate::searches::{last_up_to, owner_within};
 use ml_bits::{Bits, OutOfMemory};
 use std::alloc::Global;
 use std::marker::Model;
 
-/// The prefixes of a directory as one vector in order.
+/// The prefixes of a directory as one vector in order. All searches go by halves but that of `prefix_of`, which looks through all prefixes.
 #[derive(Drop)]
 pub struct SortedDir {
     kept: Vec<Kept>,

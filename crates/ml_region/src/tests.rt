@@ -1,7 +1,9 @@
-//! A directory of a few prefixes, and regions of one item.
-ghost use Rattle.std.specs.Prelude.{◌≡◌, IfOk};
+//! A directory of a few prefixes, regions of one item, and nested regions of a few numbers.
+ghost use Rattle.std.specs.Prelude.{◌≡◌, ◌≢◌, ℕ, ◌<◌, IfOk, IsTrue, length};
+ghost use Rattle.ml_region.specs.Prefixes.{IsOwner};
+ghost use Rattle.ml_region.specs.Regions.{IsApart, items_at, region_at, region_prefixes};
 
-use crate::{Directory, Id, Item, MOST_ITEMS, Regions, SortedDir};
+use crate::{Directory, Id, Item, MOST_ITEMS, OutOfMemory, Regions, SortedDir};
 use ml_bits::Bits;
 use ml_key::{Pattern, key_of, pattern_of};
 use ml_term::{Args, Decl, Kind, Name, Pred, Term, is_name, is_valid, nodes_up_to};
@@ -142,5 +144,202 @@ fn an_item_comes_and_goes(rt: HostRuntime) -> Result<(), Fail> {
     assert!(rt; regions.len() == 1);
     assert!(rt; regions.take(&key).is_some());
     assert!(rt; regions.find(&key).is_none());
+    Ok(())
+}
+
+/// The 8 bits of a number.
+fn bits_of(alloc: Global, number: u8) -> Result<Bits, OutOfMemory> {
+    Bits::from_bytes(alloc, &[number], 8)
+}
+
+/// Whether no item's key begins a key or begins with it.
+fn is_apart(regions: &Regions<SortedDir>, key: &Bits) -> bool
+    ensures { IsTrue result → IsApart regions.now.regions key.now.bits }
+{
+    for i in 0..regions.len() {
+        for j in 0..regions.count(i) {
+            let other = &regions.item(i, j).key;
+            if other.is_prefix_of(key) || key.is_prefix_of(other) {
+                return false;
+            }
+        }
+    }
+    true
+}
+
+/// Whether the region that owns a key has place for one more item.
+fn has_place(regions: &Regions<SortedDir>, key: &Bits) -> bool
+    ensures { IsTrue result → (i : ℕ) → IsOwner (region_prefixes regions.now.regions) key.now.bits i
+        → length (items_at regions.now.regions i) < MOST_ITEMS }
+{
+    let owner = regions.owner_of(key);
+    if owner >= regions.len() {
+        return false;
+    }
+    regions.count(owner) < MOST_ITEMS
+}
+
+/// Whether no region has a prefix.
+fn is_new(regions: &Regions<SortedDir>, prefix: &Bits) -> bool
+    ensures { IsTrue result → (m : ℕ) → m < length regions.now.regions → (region_at regions.now.regions m).prefix ≢ prefix.now.bits }
+{
+    for m in 0..regions.len() {
+        if regions.prefix(m).cmp(prefix).is_eq() {
+            return false;
+        }
+    }
+    true
+}
+
+/// Puts an item with the 8 bits of a number as its key into its region.
+fn place_number(
+    rt: &impl Abort,
+    alloc: Global,
+    regions: &mut Regions<SortedDir>,
+    number: u8,
+) -> Result<(), OutOfMemory> {
+    let key = bits_of(alloc, number)?;
+    assert!(rt; is_apart(regions, &key));
+    assert!(rt; has_place(regions, &key));
+    regions.place(Item {
+        key,
+        term: Term::Int(0),
+        number: 0,
+        committed: true,
+        front: false,
+        id: Id {
+            place: 0,
+            change: 0,
+        },
+    });
+    Ok(())
+}
+
+/// Cuts a region at the first `n` bits of the key of its first item.
+fn cut_first(
+    rt: &impl Abort,
+    regions: &mut Regions<SortedDir>,
+    i: usize,
+    n: usize,
+) -> Result<(), OutOfMemory> {
+    assert!(rt; i < regions.len());
+    assert!(rt; regions.count(i) > 0);
+    assert!(rt; regions.prefix(i).len() < n);
+    assert!(rt; n <= regions.item(i, 0).key.len());
+    regions.cut(i, 0, n)
+}
+
+/// Recuts a region at the first `n` bits of the key of item `j` of region `r`, which is the region itself or its parent.
+fn recut_at(
+    rt: &impl Abort,
+    regions: &mut Regions<SortedDir>,
+    i: usize,
+    r: usize,
+    j: usize,
+    n: usize,
+) -> Result<(), OutOfMemory> {
+    regions.make_room(n)?;
+    assert!(rt; i > 0);
+    assert!(rt; i < regions.len());
+    let Some(parent) = regions.parent_of(i) else {
+        unreachable!()
+    };
+    assert!(rt; regions.count(parent) + regions.count(i) <= MOST_ITEMS);
+    assert!(rt; regions.prefix(parent).len() < n);
+    assert!(rt; r == i || r == parent);
+    assert!(rt; j < regions.count(r));
+    let key = &regions.item(r, j).key;
+    assert!(rt; n <= key.len());
+    let prefix = key.prefix(n)?;
+    assert!(rt; is_new(regions, &prefix));
+    regions.recut(i, r, j, n);
+    Ok(())
+}
+
+/// Whether a region has the first bits of a number as its prefix, and the 8 bits of the numbers from one up to another as its keys, in their order.
+fn has_numbers(
+    alloc: Global,
+    regions: &Regions<SortedDir>,
+    i: usize,
+    bits: usize,
+    numbers: (u8, u8),
+) -> Result<bool, OutOfMemory> {
+    let (first, last) = numbers;
+    if i >= regions.len() {
+        return Ok(false);
+    }
+    let prefix = regions.prefix(i);
+    if prefix.len() != bits || !prefix.is_prefix_of(&bits_of(alloc, first)?) {
+        return Ok(false);
+    }
+    let mut j = 0;
+    for number in first..=last {
+        if j >= regions.count(i) || regions.item(i, j).key != bits_of(alloc, number)? {
+            return Ok(false);
+        }
+        j += 1;
+    }
+    Ok(j == regions.count(i))
+}
+
+/// A region of 7 numbers and its parent of 19 are cut anew, once at an item of the parent and once at one of the region: their prefixes and items.
+#[test]
+fn a_thin_region_is_recut_with_its_parent(rt: HostRuntime) -> Result<(), Fail> {
+    let alloc = rt.alloc();
+    let mut regions = Regions::new(alloc, SortedDir::new(alloc)?)?;
+    for number in 1..8 {
+        place_number(&rt, alloc, &mut regions, number)?;
+    }
+    cut_first(&rt, &mut regions, 0, 5)?;
+    for number in 8..27 {
+        place_number(&rt, alloc, &mut regions, number)?;
+    }
+    assert!(rt; has_numbers(alloc, &regions, 0, 0, (8, 26))?);
+    assert!(rt; has_numbers(alloc, &regions, 1, 5, (1, 7))?);
+    recut_at(&rt, &mut regions, 1, 0, 8, 4)?;
+    assert!(rt; has_numbers(alloc, &regions, 0, 0, (1, 15))?);
+    assert!(rt; has_numbers(alloc, &regions, 1, 4, (16, 26))?);
+    recut_at(&rt, &mut regions, 1, 1, 8, 5)?;
+    assert!(rt; has_numbers(alloc, &regions, 0, 0, (1, 23))?);
+    assert!(rt; has_numbers(alloc, &regions, 1, 5, (24, 26))?);
+    assert_eq!(rt; regions.len(), 2);
+    Ok(())
+}
+
+/// The prefixes none, 0, 01, 011 and 10 in their order: the owner of a key, and the parent of each.
+#[test]
+fn the_longest_prefix_owns_a_key(rt: HostRuntime) -> Result<(), Fail> {
+    let alloc = rt.alloc();
+    let mut regions = Regions::new(alloc, SortedDir::new(alloc)?)?;
+    place_number(&rt, alloc, &mut regions, 0b0110_0000)?;
+    cut_first(&rt, &mut regions, 0, 1)?;
+    cut_first(&rt, &mut regions, 1, 2)?;
+    cut_first(&rt, &mut regions, 2, 3)?;
+    place_number(&rt, alloc, &mut regions, 0b1000_0000)?;
+    cut_first(&rt, &mut regions, 0, 2)?;
+    assert_eq!(rt; regions.len(), 5);
+    let owners = [
+        (0b0111_0000, 8, 3),
+        (0b0110_0000, 3, 3),
+        (0b0100_0000, 4, 2),
+        (0b0101_1111, 8, 2),
+        (0b0100_0000, 2, 2),
+        (0b0011_1111, 8, 1),
+        (0b0000_0000, 1, 1),
+        (0b1011_0000, 4, 4),
+        (0b1111_1111, 8, 0),
+        (0b1000_0000, 1, 0),
+        (0b0000_0000, 0, 0),
+    ];
+    for (number, bits, owner) in owners {
+        let key = bits_of(alloc, number)?;
+        assert!(rt; bits <= key.len());
+        assert_eq!(rt; regions.owner_of(&key.prefix(bits)?), owner);
+    }
+    let parents = [None, Some(0), Some(1), Some(2), Some(0)];
+    for (i, parent) in parents.iter().enumerate() {
+        assert!(rt; i < regions.len());
+        assert!(rt; regions.parent_of(i) == *parent);
+    }
     Ok(())
 }

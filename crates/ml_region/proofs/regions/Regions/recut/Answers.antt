@@ -2,19 +2,21 @@ use Rattle.std.proofs.Common.{◌≡◌, ◌⊎◌, inl, inr, ℕ, ◌+◌, ◌<
 use Rattle.std.specs.Prelude.{Contains, vec_capacity}
 use Rattle.std.specs.List.{remove}
 use Rattle.std.proofs.lemmas.List.{get_or_read}
+use Rattle.std.proofs.lemmas.List.Edits.{length-remove}
 use Rattle.std.proofs.lemmas.List.Elements.{Contains-get_or}
 use Rattle.ml_region.specs.Changes.{IsRecut}
 use Rattle.ml_region.specs.Moves.{IsParted}
 use Rattle.ml_region.specs.Prefixes.{bits_at, IsRising, IsParent}
-use Rattle.ml_region.specs.Listing.{Entry, IsSlotOfParent, IsWithEntry, IsPrefixOfSlot, HasSlot, prefix_at, slot_at}
+use Rattle.ml_region.specs.Listing.{Entry, IsListing, IsSlotOfParent, IsWithEntry, prefix_at, slot_at}
 use Rattle.ml_region.specs.Regions.{Region, RegionList, items_at, keys_of, keys_at, region_at, region_prefixes}
 use Rattle.ml_region.specs.Stored.{page_at, regions_of, IsStored}
 use Rattle.ml_region.specs.declared.item.Item.{Item}
 use Rattle.ml_region.proofs.Elements.{whole_back}
-use Rattle.ml_region.proofs.CutSteps.{own_prefix}
+use Rattle.ml_region.proofs.CutSteps.{length_with, listing_with, among_with}
+use Rattle.ml_region.proofs.Listing.{listing_remove, new_slot_remove}
 use Rattle.ml_region.proofs.Found.{items_of_page, prefix_of_entry, key_of_item, page_rising}
 use Rattle.ml_region.proofs.MergeSteps.{parent_is, parent_in_front, parent_within, own_items, parent_items, keys_differ}
-use Rattle.ml_region.proofs.RecutSteps.{recut_end, has_new_slot, same_parent, parted_length}
+use Rattle.ml_region.proofs.RecutSteps.{recut_end, same_parent, parted_length}
 use Rattle.ml_region.proofs.Standing.{keys_length}
 use Rattle.ml_region.proofs.StoredRegions.{regions_length, slot_within, slots_apart, listing_of}
 use Rattle.ml_region.proofs.regions.Regions.recut.Goals as goal
@@ -158,8 +160,33 @@ rename-requires-clause-prefix g c =
     λ m l e. c.requires.prefix m (omega (arith, regions_length entries pages, ap length same))
     (ap (λ (q : List Region). (region_at q m).prefix) (sym same) ∙ prefix_of_entry entries pages m l ∙ e ∙ ap (take c.args.n) (sym now_is))
 
-pub prefix_of-requires : goal.prefix_of-requires
-prefix_of-requires g c =
+pub prefix_among-renamed-requires-clause-listing : goal.prefix_among-renamed-requires-clause-listing
+prefix_among-renamed-requires-clause-listing g c =
+    let entries : List Entry = (g.D.Directory.listing c.self.inside.dir).entries in
+    let pages : List (List Item) = c.self.inside.pages.items in
+    let i : ℕ = c.args.i in
+    let same : regions_of entries pages ≡ c.args.self.now.regions = ap (λ (v : RegionList). v.regions) c.self.view_is in
+    let h : i < length entries = omega (arith, regions_length entries pages, ap length same, c.requires.within) in
+    let p : List Bool = take c.args.n c.item.result.now.key.bits in
+    let after : List Entry = (g.D.Directory.listing c.rename.new.self).entries in
+    let with_entry : IsWithEntry (remove entries i) (record { prefix = p; slot = slot_at entries i }) after = c.rename.ensures.entries in
+    let listing : IsListing entries = listing_of entries pages c.self.inside.free.items (vec_capacity c.self.inside.free) c.self.invariant in
+    listing_with (remove entries i) (record { prefix = p; slot = slot_at entries i }) after (listing_remove entries i listing c.requires.nested h) (new_slot_remove entries i h listing) with_entry
+
+pub prefix_among-renamed-requires-clause-len : goal.prefix_among-renamed-requires-clause-len
+prefix_among-renamed-requires-clause-len g c =
+    let entries : List Entry = (g.D.Directory.listing c.self.inside.dir).entries in
+    let pages : List (List Item) = c.self.inside.pages.items in
+    let i : ℕ = c.args.i in
+    let same : regions_of entries pages ≡ c.args.self.now.regions = ap (λ (v : RegionList). v.regions) c.self.view_is in
+    let h : i < length entries = omega (arith, regions_length entries pages, ap length same, c.requires.within) in
+    let p : List Bool = take c.args.n c.item.result.now.key.bits in
+    let after : List Entry = (g.D.Directory.listing c.rename.new.self).entries in
+    let with_entry : IsWithEntry (remove entries i) (record { prefix = p; slot = slot_at entries i }) after = c.rename.ensures.entries in
+    omega (arith, c.len-len.ensures.length, ap length same, regions_length entries pages, length_with (remove entries i) (record { prefix = p; slot = slot_at entries i }) after with_entry, length-remove entries i h)
+
+pub prefix_among-renamed-requires-clause-within : goal.prefix_among-renamed-requires-clause-within
+prefix_among-renamed-requires-clause-within g c =
     let entries : List Entry = (g.D.Directory.listing c.self.inside.dir).entries in
     let pages : List (List Item) = c.self.inside.pages.items in
     let free : List ℕ = c.self.inside.free.items in
@@ -174,8 +201,36 @@ prefix_of-requires g c =
     let p_in : sp.place < length entries = parent_within entries pages free reserved i to c.self.invariant h sp in
     let is_parent : IsParent (region_prefixes c.args.self.now.regions) (region_at c.args.self.now.regions i).prefix sp.place =
     subst (λ (q : List Region). IsParent (region_prefixes q) (region_at q i).prefix sp.place) same (parent_is entries pages free reserved i to c.self.invariant h sp) in
-    subst (HasSlot (g.D.Directory.listing c.rename.new.self).entries) (sym c.slot_of-from.ensures)
-    (has_new_slot (remove entries i) (take c.args.n c.item.result.now.key.bits) (slot_at entries i) (g.D.Directory.listing c.rename.new.self).entries c.rename.ensures.entries)
+    let r : ℕ = c.args.r in
+    let which : (r ≡ i) ⊎ (r ≡ sp.place) = elim c.requires.region [
+      | inl e ↦ inl e
+      | inr p ↦ inr (same_parent entries pages free reserved i to c.self.invariant h sp r (subst (λ (q : List Region). IsParent (region_prefixes q) (region_at q i).prefix r) (sym same) p))
+    ] in
+    let r_in : r < length entries = elim which [ inl e ↦ omega arith | inr e ↦ omega arith ] in
+    let source : ℕ = c.slot_of-source.result in
+    let source_in : source < length pages = omega (arith, c.slot_of-source.ensures, slot_within entries free (length pages) r c.self.invariant.shared r_in) in
+    let page : c.index.result.now ≡ items_at (regions_of entries pages) r =
+    get_or_read pages source c.index.result.now source_in c.index.ensures [] ∙ ap (page_at pages) c.slot_of-source.ensures ∙ sym (items_of_page entries pages r r_in) in
+    let within : c.args.j < length (items_at (regions_of entries pages) r) = subst (λ (q : List Region). c.args.j < length (items_at q r)) (sym same) c.requires.item in
+    let j_in : c.args.j < length c.index.result.now = subst (λ xs. c.args.j < length xs) (sym page) within in
+    let key : List Bool = c.item.result.now.key.bits in
+    let key_is : bits_at (keys_at (regions_of entries pages) r) c.args.j ≡ key =
+    ap (λ xs. bits_at (keys_of xs) c.args.j) (sym page) ∙ key_of_item c.index.result.now c.args.j c.item.result.now j_in ∙ ap (λ (x : Item). x.key.bits) (sym c.item.ensures) in
+    let now_is : bits_at (keys_at c.args.self.now.regions r) c.args.j ≡ key = ap (λ (q : List Region). bits_at (keys_at q r) c.args.j) (sym same) ∙ key_is in
+    let long : c.args.n ≤ length key = omega (arith, c.requires.bits, ap length now_is) in
+    long
+
+pub prefix_among-renamed-requires-clause-there : goal.prefix_among-renamed-requires-clause-there
+prefix_among-renamed-requires-clause-there g c =
+    let entries : List Entry = (g.D.Directory.listing c.self.inside.dir).entries in
+    let pages : List (List Item) = c.self.inside.pages.items in
+    let i : ℕ = c.args.i in
+    let same : regions_of entries pages ≡ c.args.self.now.regions = ap (λ (v : RegionList). v.regions) c.self.view_is in
+    let h : i < length entries = omega (arith, regions_length entries pages, ap length same, c.requires.within) in
+    let p : List Bool = take c.args.n c.item.result.now.key.bits in
+    let after : List Entry = (g.D.Directory.listing c.rename.new.self).entries in
+    let with_entry : IsWithEntry (remove entries i) (record { prefix = p; slot = slot_at entries i }) after = c.rename.ensures.entries in
+    among_with (remove entries i) (record { prefix = p; slot = slot_at entries i }) after with_entry
 
 pub pour_and_part-requires-clause-from : goal.pour_and_part-requires-clause-from
 pour_and_part-requires-clause-from g c =
@@ -372,11 +427,10 @@ invariant_of-self g c =
     let new : List (List Item) = c.pour_and_part.new.pages in
     let after : List Entry = (g.D.Directory.listing c.rename.new.self).entries in
     let with_entry : IsWithEntry (remove entries i) (record { prefix = p; slot = slot_at entries i }) after = c.rename.ensures.entries in
-    let bits : c.prefix_of.result.now.bits ≡ p =
-    own_prefix (remove entries i) p (slot_at entries i) after c.prefix_of.result.now.bits with_entry (subst (λ s. IsPrefixOfSlot after s c.prefix_of.result.now.bits) c.slot_of-from.ensures c.prefix_of.ensures) in
+    let bits : c.prefix_among-renamed.result.now.bits ≡ p = c.prefix_among-renamed.ensures in
     let parted : IsParted pages (slot_at entries i) to p new =
     subst (λ b. IsParted pages (slot_at entries i) to b new) bits
-    (subst (λ s. IsParted pages s to c.prefix_of.result.now.bits new) c.slot_of-from.ensures (subst (λ ps. IsParted ps from to c.prefix_of.result.now.bits new) lent c.pour_and_part.ensures)) in
+    (subst (λ s. IsParted pages s to c.prefix_among-renamed.result.now.bits new) c.slot_of-from.ensures (subst (λ ps. IsParted ps from to c.prefix_among-renamed.result.now.bits new) lent c.pour_and_part.ensures)) in
     let there : Contains (keys_at (regions_of entries pages) r) key =
     subst (Contains (keys_at (regions_of entries pages) r)) key_is
     (Contains-get_or (keys_at (regions_of entries pages) r) c.args.j [] (omega (arith, within, keys_length (items_at (regions_of entries pages) r)))) in
@@ -434,11 +488,10 @@ returns-clause-regions g c =
     let new : List (List Item) = c.pour_and_part.new.pages in
     let after : List Entry = (g.D.Directory.listing c.rename.new.self).entries in
     let with_entry : IsWithEntry (remove entries i) (record { prefix = p; slot = slot_at entries i }) after = c.rename.ensures.entries in
-    let bits : c.prefix_of.result.now.bits ≡ p =
-    own_prefix (remove entries i) p (slot_at entries i) after c.prefix_of.result.now.bits with_entry (subst (λ s. IsPrefixOfSlot after s c.prefix_of.result.now.bits) c.slot_of-from.ensures c.prefix_of.ensures) in
+    let bits : c.prefix_among-renamed.result.now.bits ≡ p = c.prefix_among-renamed.ensures in
     let parted : IsParted pages (slot_at entries i) to p new =
     subst (λ b. IsParted pages (slot_at entries i) to b new) bits
-    (subst (λ s. IsParted pages s to c.prefix_of.result.now.bits new) c.slot_of-from.ensures (subst (λ ps. IsParted ps from to c.prefix_of.result.now.bits new) lent c.pour_and_part.ensures)) in
+    (subst (λ s. IsParted pages s to c.prefix_among-renamed.result.now.bits new) c.slot_of-from.ensures (subst (λ ps. IsParted ps from to c.prefix_among-renamed.result.now.bits new) lent c.pour_and_part.ensures)) in
     let there : Contains (keys_at (regions_of entries pages) r) key =
     subst (Contains (keys_at (regions_of entries pages) r)) key_is
     (Contains-get_or (keys_at (regions_of entries pages) r) c.args.j [] (omega (arith, within, keys_length (items_at (regions_of entries pages) r)))) in

@@ -1,12 +1,16 @@
-use Rattle.std.proofs.Common.{◌≡◌, ℕ, ◌+◌, ◌≤◌, Bool, List, take, sym, ap, ◌∙◌, subst, arith}
+use Rattle.std.proofs.Common.{◌≡◌, ℕ, ◌+◌, ◌≤◌, Bool, List, sym, ap, ◌∙◌, subst, arith}
 use Rattle.std.specs.List.{insert}
 use Rattle.std.proofs.lemmas.List.{take_all}
-use Rattle.ml_region.specs.Prefixes.{IsPlaceFor}
+use Rattle.ml_region.specs.Prefixes.{IsPlaceFor, IsLastUpTo}
 use Rattle.ml_region.specs.Listing.{Listing, IsNewPrefix, IsNewSlot, IsWithEntry, prefixes_of}
-use Rattle.ml_region.specs.Kept.{kept_entries, IsKept, IsLastUpTo}
+use Rattle.ml_region.specs.Kept.{kept_entries, IsKept}
 use Rattle.ml_region.specs.declared.kept.Kept.{Kept}
 use Rattle.ml_region.proofs.Elements.{kept_insert, entries_insert, new_place}
+use Rattle.ml_region.proofs.Listing.{listing_rooted}
 use Rattle.ml_region.proofs.sorted_dir.SortedDirDirectory.add.Goals as goal
+
+pub last_up_to-place-requires-clause-rooted : goal.last_up_to-place-requires-clause-rooted
+last_up_to-place-requires-clause-rooted c = listing_rooted (kept_entries c.self.inside.kept.items) c.self.invariant.listing
 
 pub invariant_of-self-2 : goal.invariant_of-self-2
 invariant_of-self-2 c =
@@ -16,10 +20,8 @@ invariant_of-self-2 c =
     let bits : List Bool = c.make_room.new.self.bits in
     let k : Kept = record { prefix = c.make_room.new.self; slot = c.args.slot } in
     let entries : kept_entries items ≡ c.args.self.now.entries = ap (λ (v : Listing). v.entries) c.self.view_is in
-    let first : IsLastUpTo (prefixes_of (kept_entries items)) (take c.len.result bits) place =
-    subst (λ xs. IsLastUpTo (prefixes_of (kept_entries xs)) (take c.len.result bits) place) c.deref.ensures.value c.last_up_to-place.ensures in
     let last : IsLastUpTo (prefixes_of (kept_entries items)) bits place =
-    subst (λ b. IsLastUpTo (prefixes_of (kept_entries items)) b place) (take_all c.len.result bits (omega (arith, c.len.ensures.length))) first in
+    subst (λ b. IsLastUpTo (prefixes_of (kept_entries items)) b place) (take_all c.len.result bits (omega (arith, c.len.ensures.length))) c.last_up_to-place.ensures in
     let new : IsNewPrefix (kept_entries items) bits =
     subst (λ es. IsNewPrefix es bits) (sym entries) (subst (λ b. IsNewPrefix c.args.self.now.entries b) (sym c.in_ok-make_room.ensures.list) c.requires.prefix) in
     let slot : IsNewSlot (kept_entries items) c.args.slot = subst (λ es. IsNewSlot es c.args.slot) (sym entries) c.requires.slot in
@@ -33,10 +35,8 @@ returns-clause-ok c =
     let bits : List Bool = c.make_room.new.self.bits in
     let k : Kept = record { prefix = c.make_room.new.self; slot = c.args.slot } in
     let entries : kept_entries items ≡ c.args.self.now.entries = ap (λ (v : Listing). v.entries) c.self.view_is in
-    let first : IsLastUpTo (prefixes_of (kept_entries items)) (take c.len.result bits) place =
-    subst (λ xs. IsLastUpTo (prefixes_of (kept_entries xs)) (take c.len.result bits) place) c.deref.ensures.value c.last_up_to-place.ensures in
     let last : IsLastUpTo (prefixes_of (kept_entries items)) bits place =
-    subst (λ b. IsLastUpTo (prefixes_of (kept_entries items)) b place) (take_all c.len.result bits (omega (arith, c.len.ensures.length))) first in
+    subst (λ b. IsLastUpTo (prefixes_of (kept_entries items)) b place) (take_all c.len.result bits (omega (arith, c.len.ensures.length))) c.last_up_to-place.ensures in
     let new : IsNewPrefix (kept_entries items) bits =
     subst (λ es. IsNewPrefix es bits) (sym entries) (subst (λ b. IsNewPrefix c.args.self.now.entries b) (sym c.in_ok-make_room.ensures.list) c.requires.prefix) in
     let fits : IsPlaceFor (prefixes_of (kept_entries items)) bits (place + 1) = new_place items bits place last new in

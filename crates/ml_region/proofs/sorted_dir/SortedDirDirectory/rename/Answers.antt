@@ -1,20 +1,20 @@
 use Rattle.std.proofs.Common.{◌≡◌, ℕ, ◌+◌, ◌<◌, ◌≤◌, Bool, List, length, take, sym, ap, ◌∙◌, subst, arith}
 use Rattle.std.specs.List.{insert, remove}
-use Rattle.ml_region.specs.Prefixes.{IsPlaceFor}
-use Rattle.ml_region.specs.Listing.{Listing, IsListing, IsNewPrefix, IsNewSlot, IsWithEntry, prefixes_of, slot_at}
-use Rattle.ml_region.specs.Kept.{kept_entries, IsKept, IsLastUpTo}
+use Rattle.ml_region.specs.Prefixes.{AreRooted, IsPlaceFor, IsLastUpTo}
+use Rattle.ml_region.specs.Listing.{Listing, IsNewPrefix, IsNewSlot, IsWithEntry, prefixes_of, slot_at}
+use Rattle.ml_region.specs.Kept.{kept_entries, IsKept}
 use Rattle.ml_region.specs.declared.kept.Kept.{Kept}
-use Rattle.ml_region.proofs.Listing.{new_prefix_remove, new_slot_remove}
+use Rattle.ml_region.proofs.Listing.{listing_rooted, new_prefix_remove, new_slot_remove}
 use Rattle.ml_region.proofs.Elements.{entries_length, kept_slot, kept_insert, kept_remove, entries_insert, entries_remove, new_place}
 use Rattle.ml_region.proofs.sorted_dir.SortedDirDirectory.rename.Goals as goal
 
-pub last_up_to-place-requires-clause-listing : goal.last_up_to-place-requires-clause-listing
-last_up_to-place-requires-clause-listing c =
+pub last_up_to-place-requires-clause-rooted : goal.last_up_to-place-requires-clause-rooted
+last_up_to-place-requires-clause-rooted c =
     let items : List Kept = c.self.inside.kept.items in
     let entries : kept_entries items ≡ c.args.self.now.entries = ap (λ (v : Listing). v.entries) c.self.view_is in
     let within : c.args.i < length items = omega (arith, entries_length items, ap length entries, c.requires.within) in
-    subst (λ xs. IsListing (kept_entries xs)) (sym (c.deref.ensures.value ∙ c.remove-renamed.ensures.items))
-    (kept_remove items c.self.inside.room c.args.i c.self.invariant c.requires.nested within).listing
+    subst (λ xs. AreRooted (prefixes_of (kept_entries xs))) (sym c.remove-renamed.ensures.items)
+    (listing_rooted (kept_entries (remove items c.args.i)) (kept_remove items c.self.inside.room c.args.i c.self.invariant c.requires.nested within).listing)
 
 pub invariant_of-self : goal.invariant_of-self
 invariant_of-self c =
@@ -26,8 +26,7 @@ invariant_of-self c =
     let bits : List Bool = take c.args.n c.args.from.now.bits in
     let entries : kept_entries items ≡ c.args.self.now.entries = ap (λ (v : Listing). v.entries) c.self.view_is in
     let within : i < length items = omega (arith, entries_length items, ap length entries, c.requires.within) in
-    let there : c.deref.result.now ≡ rest = c.deref.ensures.value ∙ c.remove-renamed.ensures.items in
-    let last : IsLastUpTo (prefixes_of (kept_entries rest)) bits place = subst (λ xs. IsLastUpTo (prefixes_of (kept_entries xs)) bits place) there c.last_up_to-place.ensures in
+    let last : IsLastUpTo (prefixes_of (kept_entries rest)) bits place = subst (λ xs. IsLastUpTo (prefixes_of (kept_entries xs)) bits place) c.remove-renamed.ensures.items c.last_up_to-place.ensures in
     let new : IsNewPrefix (kept_entries rest) bits =
     subst (λ es. IsNewPrefix es bits) (sym (entries_remove items i)) (new_prefix_remove (kept_entries items) i bits (omega (arith, entries_length items))
     (subst (λ es. IsNewPrefix es bits) (sym entries) c.requires.prefix)) in
@@ -54,8 +53,7 @@ returns-clause-entries c =
     let bits : List Bool = take c.args.n c.args.from.now.bits in
     let entries : kept_entries items ≡ c.args.self.now.entries = ap (λ (v : Listing). v.entries) c.self.view_is in
     let within : i < length items = omega (arith, entries_length items, ap length entries, c.requires.within) in
-    let there : c.deref.result.now ≡ rest = c.deref.ensures.value ∙ c.remove-renamed.ensures.items in
-    let last : IsLastUpTo (prefixes_of (kept_entries rest)) bits place = subst (λ xs. IsLastUpTo (prefixes_of (kept_entries xs)) bits place) there c.last_up_to-place.ensures in
+    let last : IsLastUpTo (prefixes_of (kept_entries rest)) bits place = subst (λ xs. IsLastUpTo (prefixes_of (kept_entries xs)) bits place) c.remove-renamed.ensures.items c.last_up_to-place.ensures in
     let new : IsNewPrefix (kept_entries rest) bits =
     subst (λ es. IsNewPrefix es bits) (sym (entries_remove items i)) (new_prefix_remove (kept_entries items) i bits (omega (arith, entries_length items))
     (subst (λ es. IsNewPrefix es bits) (sym entries) c.requires.prefix)) in

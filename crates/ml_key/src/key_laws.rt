@@ -1,11 +1,14 @@
 //! Laws of items' keys, of the prefixes of regions, and of patterns. The functions do nothing: their contracts are the laws.
-ghost use Rattle.std.specs.Prelude.{◌≡◌, ℕ, ◌^◌, ◌<◌, ◌↔◌, Bool, IsTrue, List, Option};
+ghost use Rattle.std.specs.Prelude.{◌≡◌, ℕ, ◌^◌, ◌<◌, ◌≤◌, ◌↔◌, Bool, IsTrue, List, Option, length};
 ghost use Rattle.ml_bits.specs.BitList.{Begins};
 ghost use Rattle.ml_key.specs.ItemKeys.{item_key};
+ghost use Rattle.ml_term.specs.CanonicalBytes.{bytes_of};
 ghost use Rattle.ml_term.specs.Patterns.{begins, fits, may_hold};
 ghost use Rattle.ml_term.specs.Tree.{Tree};
 ghost use Rattle.ml_term.specs.Valid.{is_valid};
+ghost use Rattle.ml_term.specs.declared.declaration.Decl.{Decl};
 
+use crate::limits::MOST_KEY_BITS;
 use ml_term::Kind;
 
 /// What one list begins the other means: the test of the definitions of keys and the relation that bit lists are compared by say the same.
@@ -31,4 +34,10 @@ pub fn items_have_keys_of_their_own(kind: Kind)
         Begins (item_key kind keys t m) (item_key kind keys u n) → t ≡ u }
     ensures clauses { kind ≡ Kind.Clauses → (keys : List ℕ) (t u : Tree) (m n : ℕ) → m < 2 ^ 64 → n < 2 ^ 64 →
         Begins (item_key kind keys t m) (item_key kind keys u n) → m ≡ n }
+{}
+
+/// An item of at most 4,096 canonical bytes has a key of at most 33,280 bits, whatever its declaration and its storage number are.
+pub fn keys_have_at_most_33280_bits()
+    ensures { (decl : Decl) (t : Tree) (number : ℕ) → length (bytes_of t) ≤ 4096 →
+        length (item_key decl.kind decl.keys t number) ≤ MOST_KEY_BITS }
 {}

@@ -17,6 +17,8 @@ mod term_code;
 mod tests;
 
 pub use key::key_of;
-pub use limits::{CODE_BITS, MOST_NODE_BYTES, MOST_NODES, MOST_PLACES, VARIABLE_CODE};
+pub use limits::{
+    CODE_BITS, MOST_KEY_BITS, MOST_NODE_BYTES, MOST_NODES, MOST_PLACES, VARIABLE_CODE,
+};
 pub use pattern::{Pattern, may_hold, pattern_of};
 pub use term_code::code;

@@ -15,6 +15,9 @@ pub const MOST_NODES: usize = 4096;
 /// How many canonical bytes one node has at most: the tag, the arity, and a name of 255 bytes behind its length.
 pub const MOST_NODE_BYTES: usize = 258;
 
+/// How many bits the key of an item has at most: 8 codes, and then 4,096 canonical bytes.
+pub const MOST_KEY_BITS: usize = 33_280;
+
 /// How many bits a byte has.
 pub(crate) const BYTE_BITS: usize = 8;
 

@@ -188,3 +188,12 @@ fn regions_of_a_clause_with_a_variable_are_asked(rt: HostRuntime) -> Result<(), 
     }
     Ok(())
 }
+
+/// Patterns may be sent to threads and shared by them.
+#[test]
+fn may_be_shared(rt: HostRuntime) -> Result<(), Fail> {
+    shared(&asked(&rt, rt.alloc(), Row::Variable(0), Row::Variable(1))?);
+    Ok(())
+}
+
+fn shared<T: Send + Sync>(_pattern: &T) {}

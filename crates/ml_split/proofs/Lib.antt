@@ -4,3 +4,4 @@ pub mod Parting
 pub mod RegionKeys
 pub mod Further
 pub mod Meeting
+pub mod RegionSizes

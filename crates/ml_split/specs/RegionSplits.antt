@@ -1,4 +1,5 @@
--- Which keys are split where a region is split, and which region takes in a key.
+-- Which keys are split where a region is split, and which region takes in a key. Here a region goes into its parent and is then cut anew; the code finds
+-- the place of the cut first, by counting over the two regions, and reads keys where they lie, with no list of them.
 use Rattle.std.specs.Prelude.{ℕ, ◌<◌, ◌≤◌, length, Bool, List, [], ◌∷◌, ◌++◌, Option, Some, None, ◌≡◌, ◌⊎◌}
 use Rattle.ml_bits.specs.BitList.{BitList}
 use Rattle.ml_region.specs.Changes.{IsCut, IsMerged, IsRecut}
@@ -28,7 +29,7 @@ pub data IsSettled (old : List Region) (i : ℕ) (new : List Region) : Type 0 wh
       → IsSplit (keys_at old i ++ keys_at old parent) (region_at old parent).prefix prefix → IsFair (keys_at old i ++ keys_at old parent) (region_at old parent).prefix prefix
       → IsRecut old i prefix new → IsSettled old i new
 
--- a region was cut at the prefix of the rule for its keys and a further key, which is none of an item yet
+-- a region was cut at the prefix of the rule for its keys and a further key
 pub record IsSplitFor (old : List Region) (i : ℕ) (key : List Bool) (new : List Region) : Type 0 where
   pub prefix : List Bool
   pub split : IsSplit (keys_at old i ++ key ∷ []) (region_at old i).prefix prefix

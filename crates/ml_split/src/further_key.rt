@@ -1,5 +1,5 @@
 //! A region is split before it takes in one more key.
-ghost use Rattle.std.specs.Prelude.{◌≡◌, ◌<◌, ◌≤◌, [], ◌∷◌, ◌++◌, length, take, OnErr, OnOk};
+ghost use Rattle.std.specs.Prelude.{◌≡◌, ◌≢◌, ℕ, ◌<◌, ◌≤◌, [], ◌∷◌, ◌++◌, length, take, OnErr, OnOk};
 ghost use Rattle.ml_region.specs.Prefixes.{bits_at};
 ghost use Rattle.ml_region.specs.Regions.{items_at, keys_at, region_at};
 ghost use Rattle.ml_split.specs.RegionSplits.{IsNewTo, IsSplitFor};
@@ -12,7 +12,7 @@ use ml_bits::Bits;
 use ml_region::{Directory, Regions};
 
 /// Cuts region `i`, which has 24 items or more, at the prefix at which its keys and a further key are split. The region would take that key in, and no
-/// item has it yet. After an error the regions are as they were.
+/// item has it yet. If no other region had over 24 items, none has. After an error the regions are as they were.
 pub fn split_for<D: Directory>(
     regions: &mut Regions<D>,
     i: usize,
@@ -22,9 +22,12 @@ pub fn split_for<D: Directory>(
     requires new { IsNewTo regions.old.regions i key.now.bits }
     requires many { 24 ≤ length (items_at regions.old.regions i) }
     ensures ok { OnOk result (IsSplitFor regions.old.regions i key.now.bits regions.new.regions) }
+    ensures few { ((k : ℕ) → k < length regions.old.regions → k ≢ i → length (items_at regions.old.regions k) ≤ 24) →
+        OnOk result ((k : ℕ) → k < length regions.new.regions → length (items_at regions.new.regions k) ≤ 24) }
     ensures err { OnErr result (regions.new.regions ≡ regions.old.regions) }
     ensures room { regions.new.room ≡ regions.old.room }
 {
+    let _regions = regions.len();
     let place = item_for(regions, i, key);
     regions.cut(i, place.key, place.bits)
 }

@@ -13,8 +13,8 @@ use ml_region::{Directory, Regions};
 /// How many items a region has at most once it is settled.
 pub(crate) const MOST_SETTLED: usize = 24;
 
-/// Moves the items of thin region `i` to its parent, which has at most 24. Where over 24 meet, they are split again by the rule, and the page and the
-/// directory's node of region `i` serve the new region. It takes no memory: the room is at least the length of every key of the two.
+/// Moves the items of thin region `i` to its parent, which has at most 24. Where over 24 meet, they are split again by the rule. If no region had over 24
+/// items, none has. It takes no memory: the room is at least the length of every key of the two.
 pub fn settle<D: Directory>(regions: &mut Regions<D>, i: usize)
     requires nested { 0 < i }
     requires within { i < length regions.old.regions }
@@ -23,6 +23,8 @@ pub fn settle<D: Directory>(regions: &mut Regions<D>, i: usize)
     requires room { (p : ℕ) → IsParent (region_prefixes regions.old.regions) (region_at regions.old.regions i).prefix p →
         All (λ (key : List Bool). length key ≤ regions.old.room) (keys_at regions.old.regions i ++ keys_at regions.old.regions p) }
     ensures settled { IsSettled regions.old.regions i regions.new.regions }
+    ensures few { ((k : ℕ) → k < length regions.old.regions → length (items_at regions.old.regions k) ≤ 24) →
+        (k : ℕ) → k < length regions.new.regions → length (items_at regions.new.regions k) ≤ 24 }
     ensures room { regions.new.room ≡ regions.old.room }
 {
     let Some(parent) = regions.parent_of(i) else {
@@ -34,6 +36,7 @@ pub fn settle<D: Directory>(regions: &mut Regions<D>, i: usize)
         return;
     }
     let place = meeting_place(regions, i, parent);
+    // The page and the directory's node of region `i` serve the new region.
     regions.recut(i, place.region, place.item, place.bits);
 }
 

@@ -1,5 +1,5 @@
 //! Where a region is split, and its split.
-ghost use Rattle.std.specs.Prelude.{◌≡◌, ◌<◌, ◌≤◌, length, take, IfOk, OnErr};
+ghost use Rattle.std.specs.Prelude.{◌≡◌, ◌≢◌, ℕ, ◌<◌, ◌≤◌, length, take, IfOk, OnErr, OnOk};
 ghost use Rattle.std.specs.Option.{ForSome, option_copied};
 ghost use Rattle.ml_region.specs.Changes.{IsCut};
 ghost use Rattle.ml_region.specs.Prefixes.{bits_at};
@@ -37,17 +37,20 @@ pub fn split_prefix<D: Directory>(
     keys.key(place.key).prefix(place.bits)
 }
 
-/// Splits region `i`, which has over 24 items: cuts it at the prefix at which its keys are split, and gives that prefix. After an error the regions are
-/// as they were.
+/// Splits region `i`, which has over 24 items: cuts it at the prefix at which its keys are split, and gives that prefix. If no other region had over 24
+/// items, none has. After an error the regions are as they were.
 pub fn split<D: Directory>(regions: &mut Regions<D>, i: usize) -> Result<Bits, OutOfMemory>
     requires region { i < length regions.old.regions }
     requires many { 24 < length (items_at regions.old.regions i) }
     ensures split { IfOk result (λ new. IsSplit (keys_at regions.old.regions i) (region_at regions.old.regions i).prefix new.bits) }
     ensures fair { IfOk result (λ new. IsFair (keys_at regions.old.regions i) (region_at regions.old.regions i).prefix new.bits) }
     ensures cut { IfOk result (λ new. IsCut regions.old.regions i new.bits regions.new.regions) }
+    ensures few { ((k : ℕ) → k < length regions.old.regions → k ≢ i → length (items_at regions.old.regions k) ≤ 24) →
+        OnOk result ((k : ℕ) → k < length regions.new.regions → length (items_at regions.new.regions k) ≤ 24) }
     ensures err { OnErr result (regions.new.regions ≡ regions.old.regions) }
     ensures room { regions.new.room ≡ regions.old.room }
 {
+    let _regions = regions.len();
     let place = place_in(regions, i);
     let new = regions.item(i, place.key).key.prefix(place.bits)?;
     regions.cut(i, place.key, place.bits)?;

@@ -3,6 +3,7 @@ use Rattle.ml_region.specs.Prefixes.{bits_at, IsParent}
 use Rattle.ml_region.specs.Regions.{keys_at, region_at, region_prefixes}
 use Rattle.ml_split.specs.RegionSplits.{goes_in, splits_again}
 use Rattle.ml_split.proofs.RegionKeys.{meeting_length, one_parent}
+use Rattle.ml_split.proofs.RegionSizes.{settled_few}
 use Rattle.ml_split.proofs.region_settle.settle.Goals as goal
 
 pub returns-then-count-le-MOST_SETTLED-clause-settled : goal.returns-then-count-le-MOST_SETTLED-clause-settled
@@ -29,3 +30,10 @@ returns-clause-settled g c =
     omega (arith, meeting_length c.args.regions.now.regions c.args.i c.in-Some.parent, c.count.ensures, c.count-2.ensures, c.if-count-le-MOST_SETTLED.false) in
     splits_again c.in-Some.parent (take c.meeting_place-place.result.bits (bits_at (keys_at c.args.regions.now.regions c.meeting_place-place.result.region) c.meeting_place-place.result.item))
     c.in-Some.ensures many c.meeting_place-place.ensures.split c.meeting_place-place.ensures.fair c.recut.ensures.regions
+
+pub returns-then-count-le-MOST_SETTLED-clause-few : goal.returns-then-count-le-MOST_SETTLED-clause-few
+returns-then-count-le-MOST_SETTLED-clause-few g c =
+    settled_few c.args.regions.now.regions c.args.i _ c.len-regions.ensures.well_placed c.requires.within c.requires.thin (returns-then-count-le-MOST_SETTLED-clause-settled g c)
+
+pub returns-clause-few : goal.returns-clause-few
+returns-clause-few g c = settled_few c.args.regions.now.regions c.args.i _ c.len-regions.ensures.well_placed c.requires.within c.requires.thin (returns-clause-settled g c)

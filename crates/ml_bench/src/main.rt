@@ -4,11 +4,13 @@
 
 mod append;
 mod copy;
+mod fill;
 mod ground;
 mod insert;
 mod lists;
 mod matches;
 mod read;
+mod regions;
 mod relation;
 mod round;
 mod rules;
@@ -17,10 +19,12 @@ mod unify;
 
 use append::append;
 use copy::copy;
+use fill::fill;
 use ground::ground;
 use insert::insert;
-use matches::{COUNTED, Matched, matches};
+use matches::matches;
 use read::read;
+use regions::{COUNTED, Looked, regions};
 use relation::Given;
 use rules::rules;
 use std::alloc::{AllocError, Global};
@@ -40,9 +44,9 @@ fn main(rt: HostRuntime) -> io::Result<ExitCode> {
     let Ok(count) = size.parse::<u32>() else {
         return usage(&rt);
     };
-    if let Some((width, given)) = matches_of(work.as_str()) {
-        let matched = matches(rt.alloc(), width, given, count);
-        return tell_matches(&rt, work.as_str(), count, matched);
+    if let Some((width, given)) = question_of(work.as_str(), "regions") {
+        let looked = regions(rt.alloc(), width, given, count);
+        return tell_regions(&rt, work.as_str(), count, looked);
     }
     match done(rt.alloc(), work.as_str(), count) {
         Ok(Some(true)) => println!(rt; "{work} {count}: done")?,
@@ -55,6 +59,9 @@ fn main(rt: HostRuntime) -> io::Result<ExitCode> {
 
 /// Does a work, and says whether all went as wanted. None is named otherwise.
 fn done(alloc: Global, work: &str, count: u32) -> Result<Option<bool>, AllocError> {
+    if let Some((width, given)) = question_of(work, "match") {
+        return Ok(Some(matches(alloc, width, given, count)?));
+    }
     match work {
         "append" => Ok(Some(append(alloc, count)?)),
         "unify" => Ok(Some(unify(alloc, count)?)),
@@ -62,49 +69,41 @@ fn done(alloc: Global, work: &str, count: u32) -> Result<Option<bool>, AllocErro
         "copy" => Ok(Some(copy(alloc, count)?)),
         "read" => Ok(Some(read(alloc, count)?)),
         "rules" => Ok(Some(rules(alloc, count)?)),
+        "fill2" => Ok(Some(fill(alloc, Width::Two, count)?)),
+        "fill3" => Ok(Some(fill(alloc, Width::Three, count)?)),
         "insert2" => Ok(Some(insert(alloc, Width::Two, count)?)),
         "insert3" => Ok(Some(insert(alloc, Width::Three, count)?)),
         _ => Ok(None),
     }
 }
 
-/// The matches that a word names.
-fn matches_of(work: &str) -> Option<(Width, Given)> {
-    match work {
-        "match2none" => Some((Width::Two, Given::Neither)),
-        "match2first" => Some((Width::Two, Given::First)),
-        "match2second" => Some((Width::Two, Given::Second)),
-        "match2both" => Some((Width::Two, Given::Both)),
-        "match3none" => Some((Width::Three, Given::Neither)),
-        "match3first" => Some((Width::Three, Given::First)),
-        "match3second" => Some((Width::Three, Given::Second)),
-        "match3both" => Some((Width::Three, Given::Both)),
+/// The tuples that a word of this kind names behind its beginning: how many arguments they have, and which of them are given.
+fn question_of(work: &str, kind: &str) -> Option<(Width, Given)> {
+    match work.strip_prefix(kind)? {
+        "2none" => Some((Width::Two, Given::Neither)),
+        "2first" => Some((Width::Two, Given::First)),
+        "2second" => Some((Width::Two, Given::Second)),
+        "2both" => Some((Width::Two, Given::Both)),
+        "3none" => Some((Width::Three, Given::Neither)),
+        "3first" => Some((Width::Three, Given::First)),
+        "3second" => Some((Width::Three, Given::Second)),
+        "3both" => Some((Width::Three, Given::Both)),
         _ => None,
     }
 }
 
-/// Tells what came of matches.
-fn tell_matches(
+/// Tells how many regions matches look at.
+fn tell_regions(
     rt: &HostRuntime,
     work: &str,
     count: u32,
-    matched: Result<Option<Matched>, AllocError>,
+    looked: Result<Option<Looked>, AllocError>,
 ) -> io::Result<ExitCode> {
-    match matched {
-        Ok(
-            Some(
-                Matched {
-                    wanted: true,
-                    looked_at,
-                    regions,
-                },
-            ),
-        ) => {
-            println!(rt;
-                "{work} {count}: done, {COUNTED} matches looked at {looked_at} of {regions} regions"
-            )?;
+    match looked {
+        Ok(Some(Looked { looked_at, all })) => {
+            println!(rt; "{work} {count}: {COUNTED} matches look at {looked_at} of {all} regions")?;
         }
-        Ok(_) => println!(rt; "{work} {count}: not as wanted")?,
+        Ok(None) => println!(rt; "{work} {count}: not as wanted")?,
         Err(_) => println!(rt; "{work} {count}: out of memory")?,
     }
     Ok(ExitCode::SUCCESS)
@@ -113,8 +112,10 @@ fn tell_matches(
 /// Tells what the words may be.
 fn usage(rt: &HostRuntime) -> io::Result<ExitCode> {
     println!(rt; "ml_bench WORK N, where WORK is one of")?;
-    println!(rt; "unify ground append copy read rules insert2 insert3")?;
+    println!(rt; "unify ground append copy read rules fill2 fill3 insert2 insert3")?;
     println!(rt; "match2none match2first match2second match2both")?;
     println!(rt; "match3none match3first match3second match3both")?;
+    println!(rt; "regions2none regions2first regions2second regions2both")?;
+    println!(rt; "regions3none regions3first regions3second regions3both")?;
     Ok(ExitCode::from(2))
 }

@@ -1,47 +1,39 @@
 //! Tuples of a file are asked for by some of their arguments.
-use crate::insert::filled;
-use crate::relation::{Given, Relation};
-use crate::tuples::{Row, TUPLES_A_VALUE, Width, row_at, values_of};
+use crate::fill::filled;
+use crate::relation::Given;
+use crate::tuples::{TUPLES_A_VALUE, Width, asked_row};
 use std::alloc::{AllocError, Global};
 
-/// How many matches are made where some argument is given.
-const MATCHES: u32 = 1000;
+/// How many answers the matches have together where no argument is given.
+const ANSWERS: u32 = 400000;
 
-/// How many matches are made where none is given.
-const MATCHES_OF_ALL: u32 = 10;
+/// How many matches are made where one argument is given.
+const MATCHES_OF_ONE: u32 = 1000;
 
-/// In how many matches the regions are counted that are looked at.
-pub const COUNTED: u32 = 10;
+/// How many matches are made where both are given.
+const MATCHES_OF_BOTH: u32 = 10000;
 
-/// How far apart the rows stand that one match and the next ask for.
-const STEP: u32 = 7919;
-
-/// What came of the matches.
-#[derive(Clone, Copy)]
-pub struct Matched {
-    /// Whether each had as many answers as wanted.
-    pub wanted: bool,
-    /// How many regions some matches looked at together.
-    pub looked_at: usize,
-    /// How many regions the file has.
-    pub regions: usize,
+/// Makes matches in one file of so many tuples, 100 at least and a multiple of 10, and says whether each has as many answers as wanted.
+pub fn matches(alloc: Global, width: Width, given: Given, count: u32) -> Result<bool, AllocError> {
+    let Some(relation) = filled(alloc, width, count)? else {
+        return Ok(false);
+    };
+    let wanted = answers_wanted(given, count) as usize;
+    for n in 0..times_of(given, count) {
+        if relation.answers(alloc, &asked_row(n, count), given)? != wanted {
+            return Ok(false);
+        }
+    }
+    Ok(true)
 }
 
-/// Makes matches in a file of so many tuples, 100 at least and a multiple of 10. There is none where some tuple came twice.
-pub fn matches(
-    alloc: Global,
-    width: Width,
-    given: Given,
-    count: u32,
-) -> Result<Option<Matched>, AllocError> {
-    let Some(relation) = filled(alloc, width, count)? else {
-        return Ok(None);
-    };
-    Ok(Some(Matched {
-        wanted: are_answered(alloc, &relation, given, count)?,
-        looked_at: looked_at(alloc, &relation, given, count)?,
-        regions: relation.len(),
-    }))
+/// How many matches are made. Where no argument is given, they are as many as make 400,000 answers in all, at least one.
+fn times_of(given: Given, count: u32) -> u32 {
+    match given {
+        Given::Neither => (ANSWERS / count.max(1)).max(1),
+        Given::First | Given::Second => MATCHES_OF_ONE,
+        Given::Both => MATCHES_OF_BOTH,
+    }
 }
 
 /// How many answers a match has.
@@ -51,44 +43,4 @@ fn answers_wanted(given: Given, count: u32) -> u32 {
         Given::First | Given::Second => TUPLES_A_VALUE,
         Given::Both => 1,
     }
-}
-
-/// Makes matches, and says whether each has as many answers as wanted.
-fn are_answered(
-    alloc: Global,
-    relation: &Relation,
-    given: Given,
-    count: u32,
-) -> Result<bool, AllocError> {
-    let times = match given {
-        Given::Neither => MATCHES_OF_ALL,
-        Given::First | Given::Second | Given::Both => MATCHES,
-    };
-    let wanted = answers_wanted(given, count) as usize;
-    for n in 0..times {
-        if relation.answers(alloc, &asked(n, count), given)? != wanted {
-            return Ok(false);
-        }
-    }
-    Ok(true)
-}
-
-/// How many regions the first matches look at together.
-fn looked_at(
-    alloc: Global,
-    relation: &Relation,
-    given: Given,
-    count: u32,
-) -> Result<usize, AllocError> {
-    let mut looked = 0usize;
-    for n in 0..COUNTED {
-        let regions = relation.regions_looked_at(alloc, &asked(n, count), given)?;
-        looked = looked.saturating_add(regions);
-    }
-    Ok(looked)
-}
-
-/// The row whose arguments a match gives.
-fn asked(n: u32, count: u32) -> Row {
-    row_at(n.wrapping_mul(STEP) % count.max(1), values_of(count))
 }

@@ -10,6 +10,9 @@ use std::alloc::{AllocError, Global};
 /// How many tuples have one and the same first argument, and how many the same second one.
 pub const TUPLES_A_VALUE: u32 = 10;
 
+/// How far apart the rows stand that one match and the next ask for.
+const STEP: u32 = 7919;
+
 /// How many arguments the tuples have.
 #[derive(Clone, Copy, PartialEq, Eq)]
 pub enum Width {
@@ -67,6 +70,11 @@ pub fn row_at(n: u32, values: u32) -> Row
         second: spread(n % values),
         third: spread(n),
     }
+}
+
+/// The row whose arguments the match with a number gives, where the file has so many tuples.
+pub fn asked_row(n: u32, count: u32) -> Row {
+    row_at(n.wrapping_mul(STEP) % count.max(1), values_of(count))
 }
 
 /// The term with a name and these arguments.

@@ -138,5 +138,5 @@ module _ (entries : List Entry) (pages : List (List Item)) (free : List ℕ) (re
           room = omega (arith, stored.room, long);
           placed = subst IsWellPlaced (sym whole) (placed_merged rs i sp.place items stored.placed may);
         },
-        record { parent = sp.place; is_parent = parent_is; items = items; all = all; same = whole },
+        record { parent = sp.place; is_parent = parent_is; items = items; all = all; rising = poured.rising; same = whole },
       )

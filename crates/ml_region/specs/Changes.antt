@@ -3,8 +3,8 @@ use Rattle.std.specs.Prelude.{ℕ, ◌≡◌, Bool, List, ◌++◌, not, slice_i
 use Rattle.std.specs.List.{filter, insert, remove}
 use Rattle.std.specs.List.Sorted.{IsPermutation}
 use Rattle.ml_term.specs.Patterns.{begins}
-use Rattle.ml_region.specs.Prefixes.{IsPlaceFor, IsOwner, IsParent}
-use Rattle.ml_region.specs.Regions.{Region, IsFound, items_at, keys_at, region_at, region_prefixes, with_items}
+use Rattle.ml_region.specs.Prefixes.{IsPlaceFor, IsOwner, IsParent, IsRising}
+use Rattle.ml_region.specs.Regions.{Region, IsFound, items_at, keys_at, keys_of, region_at, region_prefixes, with_items}
 use Rattle.ml_region.specs.declared.item.Id.{Id}
 use Rattle.ml_region.specs.declared.item.Item.{Item}
 
@@ -56,6 +56,7 @@ pub record IsMerged (old : List Region) (i : ℕ) (new : List Region) : Type 0 w
   pub is_parent : IsParent (region_prefixes old) (region_at old i).prefix parent
   pub items : List Item
   pub all : IsPermutation (items_at old parent ++ items_at old i) items
+  pub rising : IsRising (keys_of items)
   pub same : new ≡ remove (with_items old parent items) i
 
 -- a region went into its parent, and then the parent was cut at a prefix

@@ -1,4 +1,4 @@
--- How a sorted vector holds a directory.
+-- How a sorted vector holds a directory. It is said of its elements as a list; the code looks at them through the vector.
 use Rattle.std.specs.Prelude.{ℕ, ◌≤◌, List, map}
 use Rattle.std.specs.List.{All}
 use Rattle.ml_region.specs.Listing.{Entry, IsListing}

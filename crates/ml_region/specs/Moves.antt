@@ -1,4 +1,4 @@
--- Items that move from one page to another.
+-- Items that move from one page to another, as the pages before and after. The code moves one item at a time.
 use Rattle.std.specs.Prelude.{ℕ, ◌≡◌, Bool, List, [], ◌∷◌, ◌++◌, slice_index_or, slice_set}
 use Rattle.std.specs.List.{remove}
 use Rattle.std.specs.List.Sorted.{IsPermutation}

@@ -1,7 +1,7 @@
 //! A directory of prefixes, by what it holds.
-ghost use Rattle.std.specs.Prelude.{◌≡◌, ◌≢◌, ◌<◌, ◌≤◌, [], length, max, take, MatchOption, OnErr, OnOk};
+ghost use Rattle.std.specs.Prelude.{◌≡◌, ◌≢◌, ◌<◌, ◌≤◌, [], length, max, take, IfSome, MatchOption, OnErr, OnOk};
 ghost use Rattle.std.specs.List.{remove};
-ghost use Rattle.ml_region.specs.Listing.{Listing, HasSlot, IsNewPrefix, IsNewSlot, IsPrefixOfSlot, IsSlotOfOwner, IsSlotOfParent, IsWithEntry, prefix_at, slot_at};
+ghost use Rattle.ml_region.specs.Listing.{Listing, HasSlot, IsListing, IsNewPrefix, IsNewSlot, IsPrefixOfSlot, IsSlotOfOwner, IsSlotOfParent, IsWithEntry, prefix_at, slot_at};
 
 use ml_bits::{Bits, OutOfMemory};
 
@@ -25,9 +25,11 @@ pub trait Directory: Drop {
 
     /// The prefix at a place, and none past the end.
     fn prefix_at(&self, i: usize) -> Option<&Bits>
-        ensures { MatchOption result (length (listing self.now).entries ≤ i)
+        ensures prefix { MatchOption result (length (listing self.now).entries ≤ i)
             (λ prefix. (i < length (listing self.now).entries)
-            × (prefix.now.bits ≡ prefix_at (listing self.now).entries i)) };
+            × (prefix.now.bits ≡ prefix_at (listing self.now).entries i)) }
+        ensures room { IfSome result (λ prefix. (listing self.now).room ≤ prefix.now.room) }
+        ensures listing { IsListing (listing self.now).entries };
 
     /// Takes in a prefix with a slot; it gets the room that all prefixes have. After an error nothing has changed.
     fn add(&mut self, prefix: Bits, slot: Slot) -> Result<(), OutOfMemory>

@@ -12,7 +12,7 @@ pub fn owners_of_fitting_keys_may_hold_them()
         → IsTrue (may_hold pattern (bits_at (region_prefixes regions) i)) }
 {}
 
-/// Two items of well placed regions that have one key are one item, and it stands at one place.
+/// Two items of well placed regions that have one key are one item, and it stands in the region that owns the key.
 pub fn one_key_is_of_one_item()
     ensures item { (regions : List Region) (key : List Bool) (x y : Item) → IsWellPlaced regions →
         IsFound regions key x → IsFound regions key y → x ≡ y }

@@ -50,6 +50,13 @@ impl Page {
         self.items.len()
     }
 
+    /// All of them.
+    pub(crate) fn items(&self) -> &[Item]
+        ensures { result.now ≡ self.now }
+    {
+        &self.items
+    }
+
     /// The item at a place.
     pub(crate) fn item(&self, j: usize) -> &Item
         requires { j < length self.now }

@@ -1,5 +1,5 @@
 //! The regions of a file, and what can be read of them.
-ghost use Rattle.std.specs.Prelude.{◌≡◌, ◌<◌, [], ◌∷◌, length, max, slice_index_or, IfOk, MatchOption, OnErr, OnOk};
+ghost use Rattle.std.specs.Prelude.{◌≡◌, ◌<◌, ◌≤◌, [], ◌∷◌, length, max, slice_index_or, IfOk, MatchOption, OnErr, OnOk};
 ghost use Rattle.ml_region.specs.Listing.{only_root, prefixes_of};
 ghost use Rattle.ml_region.specs.Prefixes.{AreRooted, IsOwner, IsParent};
 ghost use Rattle.ml_region.specs.Regions.{HasNoKey, IsFound, IsWellPlaced, empty_region, items_at, region_at, region_prefixes};
@@ -64,7 +64,8 @@ impl<D: Directory> Regions<D> {
     /// The prefix of a region.
     pub fn prefix(&self, i: usize) -> &Bits
         requires { i < length self.now.regions }
-        ensures { result.now.bits ≡ (region_at self.now.regions i).prefix }
+        ensures bits { result.now.bits ≡ (region_at self.now.regions i).prefix }
+        ensures room { self.now.room ≤ result.now.room }
     {
         match self.dir.prefix_at(i) {
             Some(prefix) => prefix,
@@ -97,6 +98,14 @@ impl<D: Directory> Regions<D> {
         ensures { result ≡ length (items_at self.now.regions i) }
     {
         self.page(i).len()
+    }
+
+    /// The items of a region in key order.
+    pub fn items(&self, i: usize) -> &[Item]
+        requires { i < length self.now.regions }
+        ensures { result.now ≡ items_at self.now.regions i }
+    {
+        self.page(i).items()
     }
 
     /// An item of a region, by its place in key order.

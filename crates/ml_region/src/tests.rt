@@ -1,5 +1,6 @@
 //! A directory of a few prefixes, regions of one item, and nested regions of a few numbers.
 ghost use Rattle.std.specs.Prelude.{◌≡◌, ◌≢◌, ℕ, ◌<◌, IfOk, IsTrue, length};
+ghost use Rattle.ml_region.specs.Listing.{IsNewPrefix};
 ghost use Rattle.ml_region.specs.Prefixes.{IsOwner};
 ghost use Rattle.ml_region.specs.Regions.{IsApart, items_at, region_at, region_prefixes};
 
@@ -89,7 +90,7 @@ fn merged(regions: &mut Regions<SortedDir>, i: usize) -> bool {
     true
 }
 
-/// A prefix is taken in, owns the keys that begin with it, gets another name and goes.
+/// A prefix is taken in, and owns the keys that begin with it.
 #[test]
 fn a_prefix_owns_what_it_begins(rt: HostRuntime) -> Result<(), Fail> {
     let alloc = rt.alloc();
@@ -272,14 +273,15 @@ fn has_numbers(
     if prefix.len() != bits || !prefix.is_prefix_of(&bits_of(alloc, first)?) {
         return Ok(false);
     }
+    let items = regions.items(i);
     let mut j = 0;
     for number in first..=last {
-        if j >= regions.count(i) || regions.item(i, j).key != bits_of(alloc, number)? {
+        if j >= items.len() || items[j].key != bits_of(alloc, number)? {
             return Ok(false);
         }
         j += 1;
     }
-    Ok(j == regions.count(i))
+    Ok(j == items.len())
 }
 
 /// A region of 7 numbers and its parent of 19 are cut anew, once at an item of the parent and once at one of the region: their prefixes and items.
@@ -343,3 +345,83 @@ fn the_longest_prefix_owns_a_key(rt: HostRuntime) -> Result<(), Fail> {
     }
     Ok(())
 }
+
+/// The longest prefix that begins a key, by its slot.
+fn prefix_of_owner<'a>(dir: &'a SortedDir, key: &Bits) -> &'a Bits {
+    dir.prefix_of(dir.owner(key))
+}
+
+/// Whether a directory has fewer than 8 prefixes, and a list is none of them.
+fn is_new_prefix(dir: &SortedDir, list: &Bits) -> bool
+    ensures { IsTrue result → IsNewPrefix dir.now.entries list.now.bits }
+{
+    for i in 0..8 {
+        let Some(prefix) = dir.prefix_at(i) else {
+            return true;
+        };
+        if prefix.cmp(list).is_eq() {
+            return false;
+        }
+    }
+    false
+}
+
+/// Puts the first `n` bits of a list in the place of a prefix, where that may be done.
+fn renamed(dir: &mut SortedDir, i: usize, from: &Bits, n: usize) -> Result<bool, OutOfMemory> {
+    dir.make_room(n)?;
+    if i == 0 || n == 0 || n > from.len() {
+        return Ok(false);
+    }
+    let Some(_) = dir.prefix_at(i) else {
+        return Ok(false);
+    };
+    let new = from.prefix(n)?;
+    if !is_new_prefix(dir, &new) {
+        return Ok(false);
+    }
+    dir.rename(i, from, n);
+    Ok(true)
+}
+
+/// Takes out a prefix that is not the empty one.
+fn dropped(dir: &mut SortedDir, i: usize) -> bool {
+    if i == 0 {
+        return false;
+    }
+    let Some(_) = dir.prefix_at(i) else {
+        return false;
+    };
+    dir.drop_prefix(i);
+    true
+}
+
+/// A prefix gets other bits by its place, is found by its slot, and goes.
+#[test]
+fn a_prefix_is_renamed_and_goes(rt: HostRuntime) -> Result<(), Fail> {
+    let alloc = rt.alloc();
+    let mut dir = SortedDir::new(alloc)?;
+    let first = Bits::from_bytes(alloc, &[0b0110_0000], 3)?;
+    let second = Bits::from_bytes(alloc, &[0b1100_0000], 4)?;
+    assert!(rt; !first.is_empty());
+    dir.add(first, 5)?;
+    assert!(rt; prefix_of_owner(&dir, &second).is_empty());
+    assert!(rt; renamed(&mut dir, 1, &second, 2)?);
+    let own = prefix_of_owner(&dir, &second);
+    assert!(rt; own.len() == 2 && own.is_prefix_of(&second));
+    assert!(rt; dir.owner(&second) == 5);
+    assert!(rt; dropped(&mut dir, 1));
+    assert!(rt; dir.owner(&second) == 0);
+    assert!(rt; dir.prefix_at(1).is_none());
+    Ok(())
+}
+
+/// Items and regions may be sent to threads and shared by them.
+#[test]
+fn may_be_shared(rt: HostRuntime) -> Result<(), Fail> {
+    let alloc = rt.alloc();
+    shared(&item(&rt, alloc, 1)?);
+    shared(&Regions::new(alloc, SortedDir::new(alloc)?)?);
+    Ok(())
+}
+
+fn shared<T: Send + Sync>(_shared: &T) {}

@@ -16,6 +16,6 @@ returns g c =
     let bits : List Bool = take c.args.n c.args.key.now.bits in
     let there : Contains ps bits = c.requires.there in
     let same : bits_at ps there.0 ≡ bits = sym (get_or_read ps there.0 bits there.1 (sym there.2) []) in
-    c.in-Some.ensures.1
+    c.in-Some.ensures.prefix.1
     ∙ ap (bits_at ps) (last_is ps bits c.last_up_to-place.result there.0 c.requires.listing.rising c.last_up_to-place.ensures there.1 same)
     ∙ same

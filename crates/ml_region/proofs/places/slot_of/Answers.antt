@@ -11,6 +11,6 @@ returns g c =
     let i : ℕ = c.args.i in
     let h : i < length (prefixes_of entries) = omega (arith, prefixes_length entries, c.requires.within) in
     let owner : IsOwner (prefixes_of entries) (prefix_at entries i) c.owner.ensures.place =
-    subst (λ k. IsOwner (prefixes_of entries) k c.owner.ensures.place) c.in-Some.ensures.1 c.owner.ensures.owner in
+    subst (λ k. IsOwner (prefixes_of entries) k c.owner.ensures.place) c.in-Some.ensures.prefix.1 c.owner.ensures.owner in
     let same : c.owner.ensures.place ≡ i = one_owner (prefixes_of entries) (prefix_at entries i) c.owner.ensures.place i c.requires.listing.rising owner (owns_itself (prefixes_of entries) i h) in
     c.owner.ensures.same ∙ ap (slot_at entries) same

@@ -19,7 +19,7 @@ recut-requires-clause-longer g c = λ q p.
     let regions : List Region = c.make_room.new.self.regions in
     let same : q ≡ c.in-Some.parent =
     one_parent (region_prefixes regions) (region_at regions c.args.i).prefix q c.in-Some.parent c.len.ensures.well_placed.rising p c.in-Some.ensures in
-    omega (arith, ap (λ k. length (region_at regions k).prefix) same, ap length c.prefix.ensures)
+    omega (arith, ap (λ k. length (region_at regions k).prefix) same, ap length c.prefix.ensures.bits)
 
 pub recut-requires-clause-prefix : goal.recut-requires-clause-prefix
 recut-requires-clause-prefix g c = λ m h e.

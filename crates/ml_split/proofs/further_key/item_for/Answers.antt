@@ -14,11 +14,11 @@ split_place-place-requires-clause-apart g c = with_apart c.args.regions.now.regi
 
 pub split_place-place-requires-clause-begin : goal.split_place-place-requires-clause-begin
 split_place-place-requires-clause-begin g c =
-    subst (λ p. All (Begins p) (keys_at c.args.regions.now.regions c.args.i ++ c.args.key.now.bits ∷ [])) (sym c.prefix.ensures) (with_begins c.args.regions.now.regions c.len-regions.ensures.well_placed c.args.i c.requires.region c.args.key.now c.requires.new)
+    subst (λ p. All (Begins p) (keys_at c.args.regions.now.regions c.args.i ++ c.args.key.now.bits ∷ [])) (sym c.prefix.ensures.bits) (with_begins c.args.regions.now.regions c.len-regions.ensures.well_placed c.args.i c.requires.region c.args.key.now c.requires.new)
 
 pub returns-then-place-count-clause-fair : goal.returns-then-place-count-clause-fair
 returns-then-place-count-clause-fair g c =
-    with_fair c.args.regions.now.regions c.len-regions.ensures.well_placed c.args.i c.requires.region c.args.key.now c.requires.new c.requires.many c.prefix.result.now.bits (take c.split_place-place.result.bits (bits_at (keys_at c.args.regions.now.regions c.args.i ++ c.args.key.now.bits ∷ []) c.split_place-place.result.key)) (take c.split_place-place.result.bits (bits_at (keys_at c.args.regions.now.regions c.args.i) c.split_place-place.result.key)) c.prefix.ensures
+    with_fair c.args.regions.now.regions c.len-regions.ensures.well_placed c.args.i c.requires.region c.args.key.now c.requires.new c.requires.many c.prefix.result.now.bits (take c.split_place-place.result.bits (bits_at (keys_at c.args.regions.now.regions c.args.i ++ c.args.key.now.bits ∷ []) c.split_place-place.result.key)) (take c.split_place-place.result.bits (bits_at (keys_at c.args.regions.now.regions c.args.i) c.split_place-place.result.key)) c.prefix.ensures.bits
     (item_key_of c.args.regions.now.regions c.args.i c.split_place-place.result.key c.split_place-place.result.bits c.args.key.now.bits (omega (arith, c.if-place-count.true, c.count.ensures)))
     c.split_place-place.ensures.split
 
@@ -26,12 +26,12 @@ pub item_below-requires-clause-some : goal.item_below-requires-clause-some
 item_below-requires-clause-some g c =
     others_under (keys_at c.args.regions.now.regions c.args.i) c.args.key.now.bits (region_at c.args.regions.now.regions c.args.i).prefix (take c.split_place-place.result.bits c.args.key.now.bits)
     (omega (arith, c.requires.many, length-map (items_at c.args.regions.now.regions c.args.i) (λ (x : Item). x.key.bits)))
-    (with_fair c.args.regions.now.regions c.len-regions.ensures.well_placed c.args.i c.requires.region c.args.key.now c.requires.new c.requires.many c.prefix.result.now.bits (take c.split_place-place.result.bits (bits_at (keys_at c.args.regions.now.regions c.args.i ++ c.args.key.now.bits ∷ []) c.split_place-place.result.key)) (take c.split_place-place.result.bits c.args.key.now.bits) c.prefix.ensures
+    (with_fair c.args.regions.now.regions c.len-regions.ensures.well_placed c.args.i c.requires.region c.args.key.now c.requires.new c.requires.many c.prefix.result.now.bits (take c.split_place-place.result.bits (bits_at (keys_at c.args.regions.now.regions c.args.i ++ c.args.key.now.bits ∷ []) c.split_place-place.result.key)) (take c.split_place-place.result.bits c.args.key.now.bits) c.prefix.ensures.bits
     (further_key_of c.args.regions.now.regions c.args.i c.split_place-place.result.key c.count.result c.split_place-place.result.bits c.args.key.now.bits c.count.ensures c.if-place-count.false c.split_place-place.ensures.place)
     c.split_place-place.ensures.split)
 
 pub returns-clause-fair : goal.returns-clause-fair
 returns-clause-fair g c =
-    with_fair c.args.regions.now.regions c.len-regions.ensures.well_placed c.args.i c.requires.region c.args.key.now c.requires.new c.requires.many c.prefix.result.now.bits (take c.split_place-place.result.bits (bits_at (keys_at c.args.regions.now.regions c.args.i ++ c.args.key.now.bits ∷ []) c.split_place-place.result.key)) (take c.split_place-place.result.bits (bits_at (keys_at c.args.regions.now.regions c.args.i) c.item_below.result)) c.prefix.ensures
+    with_fair c.args.regions.now.regions c.len-regions.ensures.well_placed c.args.i c.requires.region c.args.key.now c.requires.new c.requires.many c.prefix.result.now.bits (take c.split_place-place.result.bits (bits_at (keys_at c.args.regions.now.regions c.args.i ++ c.args.key.now.bits ∷ []) c.split_place-place.result.key)) (take c.split_place-place.result.bits (bits_at (keys_at c.args.regions.now.regions c.args.i) c.item_below.result)) c.prefix.ensures.bits
     ((further_key_of c.args.regions.now.regions c.args.i c.split_place-place.result.key c.count.result c.split_place-place.result.bits c.args.key.now.bits c.count.ensures c.if-place-count.false c.split_place-place.ensures.place) ∙ sym c.item_below.ensures.begins)
     c.split_place-place.ensures.split

@@ -12,13 +12,13 @@ split_place-place-requires-clause-apart g c = meeting_apart c.args.regions.now.r
 
 pub split_place-place-requires-clause-begin : goal.split_place-place-requires-clause-begin
 split_place-place-requires-clause-begin g c =
-    subst (λ p. All (Begins p) (keys_at c.args.regions.now.regions c.args.i ++ keys_at c.args.regions.now.regions c.args.parent)) (sym c.prefix.ensures) (meeting_begins c.args.regions.now.regions c.len-regions.ensures.well_placed c.args.i c.args.parent c.requires.region c.requires.parent)
+    subst (λ p. All (Begins p) (keys_at c.args.regions.now.regions c.args.i ++ keys_at c.args.regions.now.regions c.args.parent)) (sym c.prefix.ensures.bits) (meeting_begins c.args.regions.now.regions c.len-regions.ensures.well_placed c.args.i c.args.parent c.requires.region c.requires.parent)
 
 pub returns-then-place-own-clause-fair : goal.returns-then-place-own-clause-fair
 returns-then-place-own-clause-fair g c =
     meeting_fair c.args.regions.now.regions c.len-regions.ensures.well_placed c.args.i c.args.parent c.requires.region c.requires.parent c.requires.many c.prefix.result.now.bits (take c.split_place-place.result.bits (bits_at (keys_at c.args.regions.now.regions c.args.i ++ keys_at c.args.regions.now.regions c.args.parent) c.split_place-place.result.key))
     (take c.split_place-place.result.bits (bits_at (keys_at c.args.regions.now.regions c.args.i) c.split_place-place.result.key))
-    c.prefix.ensures (first_key c.args.regions.now.regions c.args.i c.args.parent c.split_place-place.result.key c.split_place-place.result.bits (omega (arith, c.count-own.ensures))) c.split_place-place.ensures.split
+    c.prefix.ensures.bits (first_key c.args.regions.now.regions c.args.i c.args.parent c.split_place-place.result.key c.split_place-place.result.bits (omega (arith, c.count-own.ensures))) c.split_place-place.ensures.split
 
 pub returns-then-place-own-clause-new : goal.returns-then-place-own-clause-new
 returns-then-place-own-clause-new g c =
@@ -26,13 +26,13 @@ returns-then-place-own-clause-new g c =
     (take c.split_place-place.result.bits (bits_at (keys_at c.args.regions.now.regions c.args.i) c.split_place-place.result.key))
     (meeting_fair c.args.regions.now.regions c.len-regions.ensures.well_placed c.args.i c.args.parent c.requires.region c.requires.parent c.requires.many c.prefix.result.now.bits (take c.split_place-place.result.bits (bits_at (keys_at c.args.regions.now.regions c.args.i ++ keys_at c.args.regions.now.regions c.args.parent) c.split_place-place.result.key))
     (take c.split_place-place.result.bits (bits_at (keys_at c.args.regions.now.regions c.args.i) c.split_place-place.result.key))
-    c.prefix.ensures (first_key c.args.regions.now.regions c.args.i c.args.parent c.split_place-place.result.key c.split_place-place.result.bits (omega (arith, c.count-own.ensures))) c.split_place-place.ensures.split)
+    c.prefix.ensures.bits (first_key c.args.regions.now.regions c.args.i c.args.parent c.split_place-place.result.key c.split_place-place.result.bits (omega (arith, c.count-own.ensures))) c.split_place-place.ensures.split)
 
 pub returns-else-place-own-clause-fair : goal.returns-else-place-own-clause-fair
 returns-else-place-own-clause-fair g c =
     meeting_fair c.args.regions.now.regions c.len-regions.ensures.well_placed c.args.i c.args.parent c.requires.region c.requires.parent c.requires.many c.prefix.result.now.bits (take c.split_place-place.result.bits (bits_at (keys_at c.args.regions.now.regions c.args.i ++ keys_at c.args.regions.now.regions c.args.parent) c.split_place-place.result.key))
     (take c.split_place-place.result.bits (bits_at (keys_at c.args.regions.now.regions c.args.parent) (c.split_place-place.result.key - c.count-own.result)))
-    c.prefix.ensures (second_key c.args.regions.now.regions c.args.i c.args.parent c.split_place-place.result.key c.count-own.result c.split_place-place.result.bits c.count-own.ensures c.if-place-own.false) c.split_place-place.ensures.split
+    c.prefix.ensures.bits (second_key c.args.regions.now.regions c.args.i c.args.parent c.split_place-place.result.key c.count-own.result c.split_place-place.result.bits c.count-own.ensures c.if-place-own.false) c.split_place-place.ensures.split
 
 pub returns-else-place-own-clause-new : goal.returns-else-place-own-clause-new
 returns-else-place-own-clause-new g c =
@@ -40,4 +40,4 @@ returns-else-place-own-clause-new g c =
     (take c.split_place-place.result.bits (bits_at (keys_at c.args.regions.now.regions c.args.parent) (c.split_place-place.result.key - c.count-own.result)))
     (meeting_fair c.args.regions.now.regions c.len-regions.ensures.well_placed c.args.i c.args.parent c.requires.region c.requires.parent c.requires.many c.prefix.result.now.bits (take c.split_place-place.result.bits (bits_at (keys_at c.args.regions.now.regions c.args.i ++ keys_at c.args.regions.now.regions c.args.parent) c.split_place-place.result.key))
     (take c.split_place-place.result.bits (bits_at (keys_at c.args.regions.now.regions c.args.parent) (c.split_place-place.result.key - c.count-own.result)))
-    c.prefix.ensures (second_key c.args.regions.now.regions c.args.i c.args.parent c.split_place-place.result.key c.count-own.result c.split_place-place.result.bits c.count-own.ensures c.if-place-own.false) c.split_place-place.ensures.split)
+    c.prefix.ensures.bits (second_key c.args.regions.now.regions c.args.i c.args.parent c.split_place-place.result.key c.count-own.result c.split_place-place.result.bits c.count-own.ensures c.if-place-own.false) c.split_place-place.ensures.split)

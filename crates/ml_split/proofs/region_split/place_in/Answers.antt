@@ -15,7 +15,7 @@ split_place-requires-clause-apart g c = region_apart c.args.regions.now.regions 
 
 pub split_place-requires-clause-begin : goal.split_place-requires-clause-begin
 split_place-requires-clause-begin g c =
-    subst (λ p. All (Begins p) (keys_at c.args.regions.now.regions c.args.i)) (sym c.prefix.ensures) (region_begins c.args.regions.now.regions c.len-regions.ensures.well_placed c.args.i c.requires.region)
+    subst (λ p. All (Begins p) (keys_at c.args.regions.now.regions c.args.i)) (sym c.prefix.ensures.bits) (region_begins c.args.regions.now.regions c.len-regions.ensures.well_placed c.args.i c.requires.region)
 
 pub returns-clause-fair : goal.returns-clause-fair
 returns-clause-fair g c =
@@ -23,4 +23,4 @@ returns-clause-fair g c =
     let new : List Bool = take c.split_place.result.bits (bits_at keys c.split_place.result.key) in
     is_fair keys (region_at c.args.regions.now.regions c.args.i).prefix new (omega (arith, c.requires.many, length-map (items_at c.args.regions.now.regions c.args.i) (λ (x : Item). x.key.bits)))
     (region_apart c.args.regions.now.regions c.len-regions.ensures.well_placed c.args.i c.requires.region) (region_begins c.args.regions.now.regions c.len-regions.ensures.well_placed c.args.i c.requires.region)
-    (subst (λ p. IsSplit keys p new) c.prefix.ensures c.split_place.ensures.split)
+    (subst (λ p. IsSplit keys p new) c.prefix.ensures.bits c.split_place.ensures.split)

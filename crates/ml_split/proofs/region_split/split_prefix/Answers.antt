@@ -16,7 +16,7 @@ split_place-place-requires-clause-apart g c =
 
 pub split_place-place-requires-clause-begin : goal.split_place-place-requires-clause-begin
 split_place-place-requires-clause-begin g c =
-    subst (λ p. All (Begins p) (keys_with (keys_at c.args.regions.now.regions c.args.i) (option_copied c.args.extra))) (sym c.prefix.ensures)
+    subst (λ p. All (Begins p) (keys_with (keys_at c.args.regions.now.regions c.args.i) (option_copied c.args.extra))) (sym c.prefix.ensures.bits)
     (further_begins c.args.regions.now.regions c.len-regions.ensures.well_placed c.args.i c.requires.region (option_copied c.args.extra) c.requires.new)
 
 pub returns-clause-fair : goal.returns-clause-fair
@@ -26,7 +26,7 @@ returns-clause-fair g c =
     let old : List Bool = (region_at regions c.args.i).prefix in
     let bits = c.split_place-place.result.bits in
     let found : IsSplit keys old (take bits (get_or keys c.split_place-place.result.key [])) =
-    subst (λ p. IsSplit keys p (take bits (get_or keys c.split_place-place.result.key []))) c.prefix.ensures c.split_place-place.ensures.split in
+    subst (λ p. IsSplit keys p (take bits (get_or keys c.split_place-place.result.key []))) c.prefix.ensures.bits c.split_place-place.ensures.split in
     let here : IsSplit keys old (take bits c.key.result.now.bits) = subst (λ k. IsSplit keys old (take bits k)) (sym c.key.ensures) found in
     let all : All (Begins old) keys = further_begins regions c.len-regions.ensures.well_placed c.args.i c.requires.region (option_copied c.args.extra) c.requires.new in
     IfOk-weaker c.prefix-2.result (λ front. front ≡ fresh (take bits c.key.result.now.bits)) (λ new. IsFair keys old new.bits)

@@ -15,7 +15,7 @@ each-preserved-then-may_hold g c =
     let ps : List (List Bool) = region_prefixes regions in
     let i : ℕ = c.each.i in
     let h : i < length ps = omega (arith, region_prefixes_length regions, c.len-len.ensures.length, c.each-test.true) in
-    let bits : c.prefix-prefix.result.now.bits ≡ bits_at ps i = c.prefix-prefix.ensures ∙ sym (prefix_of_region regions i) in
+    let bits : c.prefix-prefix.result.now.bits ≡ bits_at ps i = c.prefix-prefix.ensures.bits ∙ sym (prefix_of_region regions i) in
     let held : may_hold c.args.p.now (bits_at ps i) ≡ true = ap (may_hold c.args.p.now) (sym bits) ∙ sym c.may_hold.ensures ∙ c.if-may_hold.true in
     let copy : c.in_ok-copy_of.field-0.bits ≡ bits_at ps i = ap (λ (b : BitList). b.bits) c.in_ok-copy_of.ensures ∙ bits in (
       omega (arith, c.each-test.true),
@@ -31,7 +31,7 @@ each-preserved g c =
     let regions : List Region = c.args.self.now.regions in
     let ps : List (List Bool) = region_prefixes regions in
     let i : ℕ = c.each.i in
-    let bits : c.prefix-prefix.result.now.bits ≡ bits_at ps i = c.prefix-prefix.ensures ∙ sym (prefix_of_region regions i) in
+    let bits : c.prefix-prefix.result.now.bits ≡ bits_at ps i = c.prefix-prefix.ensures.bits ∙ sym (prefix_of_region regions i) in
     let lacks : may_hold c.args.p.now (bits_at ps i) ≡ false = ap (may_hold c.args.p.now) (sym bits) ∙ sym c.may_hold.ensures ∙ c.if-may_hold.false in (
       omega (arith, c.end_of_below-i.ensures.within, region_prefixes_length regions, c.len-len.ensures.length),
       c.each.invariant.1 ∙ sym (none_below c.args.p.now ps i c.end_of_below-i.result c.end_of_below-i.ensures lacks),

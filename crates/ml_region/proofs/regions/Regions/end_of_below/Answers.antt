@@ -19,7 +19,7 @@ end_of_begun-requires-clause-prefix g c =
     let pages : List (List Item) = c.self.inside.pages.items in
     let same : regions_of entries pages ≡ c.args.self.now.regions = ap (λ (v : RegionList). v.regions) c.self.view_is in
     let h : c.args.i < length entries = omega (arith, regions_length entries pages, ap length same, c.requires) in
-    c.prefix.ensures ∙ ap (λ (q : List Region). (region_at q c.args.i).prefix) (sym same) ∙ prefix_of_entry entries pages c.args.i h
+    c.prefix.ensures.bits ∙ ap (λ (q : List Region). (region_at q c.args.i).prefix) (sym same) ∙ prefix_of_entry entries pages c.args.i h
 
 pub returns : goal.returns
 returns g c =

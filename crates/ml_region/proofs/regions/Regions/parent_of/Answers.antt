@@ -10,7 +10,7 @@ returns-then-is_empty g c =
     let ps : List (List Bool) = region_prefixes c.args.self.now.regions in
     let rooted : AreRooted ps = c.prefixes-prefixes.ensures.rooted in
     let empty : bits_at ps c.args.i ≡ bits_at ps 0 =
-    prefix_of_region c.args.self.now.regions c.args.i ∙ sym c.prefix-prefix.ensures ∙ c.is_empty.ensures.0 c.if-is_empty.true ∙ sym rooted.root in
+    prefix_of_region c.args.self.now.regions c.args.i ∙ sym c.prefix-prefix.ensures.bits ∙ c.is_empty.ensures.0 c.if-is_empty.true ∙ sym rooted.root in
     one_place ps c.args.i 0 rooted.rising (omega (arith, region_prefixes_length c.args.self.now.regions, c.requires)) rooted.some empty
 
 pub owner_within-requires-clause-rooted : goal.owner_within-requires-clause-rooted
@@ -25,4 +25,4 @@ returns g c =
     let first : IsOwner ps (take (c.len.result - 1) prefix) i =
     subst (λ ps. IsOwner ps (take (c.len.result - 1) prefix) i) c.prefixes-prefixes.ensures.same c.owner_within.ensures in
     let own : IsOwner ps (take (length prefix - 1) prefix) i = subst (λ n. IsOwner ps (take (n - 1) prefix) i) c.len.ensures.length first in
-    subst (λ k. IsParent ps k i) c.prefix-prefix.ensures (parent_from_owner ps prefix i some own)
+    subst (λ k. IsParent ps k i) c.prefix-prefix.ensures.bits (parent_from_owner ps prefix i some own)

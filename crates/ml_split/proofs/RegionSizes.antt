@@ -1,4 +1,4 @@
--- How many items regions have where one is cut, and where a thin one is settled: over 24 meet at most for a moment.
+-- How many items regions have where one is cut, and where a thin one is settled.
 use Rattle.std.proofs.Common.{◌≡◌, ◌≢◌, ◌⊎◌, inl, inr, ℕ, ◌+◌, ◌<◌, ◌≤◌, Bool, true, false, cond, not, List, [], ◌∷◌, ◌++◌, length, map, refl, sym, ap, ◌∙◌, subst, arith, length-append}
 use Rattle.std.specs.List.{filter, insert, remove}
 use Rattle.std.specs.List.Sorted.{IsPermutation}
@@ -21,11 +21,11 @@ use Rattle.ml_split.specs.Splitting.{IsFair, count_under}
 use Rattle.ml_split.proofs.Walking.{count_within}
 use Rattle.ml_split.proofs.RegionKeys.{one_parent, parent_within}
 
--- all regions have 24 items at most
+-- no region has over 24 items
 abbrev pub AreFew : List Region → Type 0
 AreFew regions = (k : ℕ) → k < length regions → length (items_at regions k) ≤ 24
 
--- all but one
+-- no other region than a given one has over 24 items
 abbrev pub AreFewBut : List Region → ℕ → Type 0
 AreFewBut regions i = (k : ℕ) → k < length regions → k ≢ i → length (items_at regions k) ≤ 24
 

@@ -1,5 +1,5 @@
--- When a file is settled, and what settling does: no region but that of the empty prefix has under 8 items. The code goes on from the place of the last region that
--- it settled, and counts nothing; what a change does to thin regions is said of prefixes here, since places move.
+-- When a file is settled, and what settling does: no region but that of the empty prefix has under 8 items. The code looks for the next thin region from the
+-- place of the last one on. What a change does to thin regions is said of prefixes, since places move.
 use Rattle.std.specs.Prelude.{ℕ, ◌<◌, ◌≡◌, ◌↔◌, nat_lt, ◌&&◌, Bool, true, false, List, length, Contains}
 use Rattle.ml_region.specs.Regions.{Region, region_at}
 use Rattle.ml_region.specs.declared.item.Item.{Item}
@@ -31,7 +31,8 @@ pub record IsFirstThin (regions : List Region) (i : ℕ) : Type 0 where
 -- a file was settled: as long as a region is thin, the first one goes into its parent
 pub data IsSettledThrough : List Region → List Region → Type 0 where
   at_rest : {regions : List Region} → AreSettled regions → IsSettledThrough regions regions
-  one_more : {old new : List Region} (middle : List Region) (i : ℕ) → IsFirstThin old i → IsSettled old i middle → IsSettledThrough middle new → IsSettledThrough old new
+  one_more : {old new : List Region} (middle : List Region) (i : ℕ) → IsFirstThin old i → IsSettled old i middle → IsSettledThrough middle new
+      → IsSettledThrough old new
 
 -- a region of this prefix is there, and is thin
 pub record HasThin (regions : List Region) (prefix : List Bool) : Type 0 where

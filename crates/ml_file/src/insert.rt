@@ -39,8 +39,8 @@ fn inserted_item(key: Bits, t: Term, number: u64, change: u32) -> Item
 
 impl BangFile {
     /// Puts a tuple, or a clause with its storage number, into the file under its key, if no item has that. The item is committed and not front; its place
-    /// is 0, and its change is how many inserts added an item before. No region is made thin. A clause is always added, since its number is its own. Where nothing is
-    /// added nothing changes, and after an error only the room of prefixes may have grown.
+    /// is 0, and its change is how many inserts added an item before. No region is made thin. The answer `Present` comes for
+    /// tuples alone, since a clause's number is its own, and then nothing changes. After an error only the room of prefixes may have grown.
     pub fn insert(&mut self, t: Term, number: u64) -> Result<Put, OutOfMemory>
         requires allowed { IsTrue (is_allowed self.old.decl (seen t)) }
         requires numbered { self.old.decl.kind ≡ Kind.Clauses → All (λ (x : Item). x.number ≢ number) (items_in self.old.regions) }

@@ -1,4 +1,4 @@
-//! Laws of a file's plain list. The functions do nothing: their contracts are the laws.
+//! Laws of files: their plain lists, their items and their thin regions. The functions do nothing: their contracts are the laws.
 ghost use Rattle.std.specs.Prelude.{◌≡◌, ◌≢◌, ◌≤◌, ◌+◌, ◌*◌, ℕ, Bool, IsTrue, List, Contains, length, ◌∷◌, ◌++◌, []};
 ghost use Rattle.std.specs.List.{All, AllPairs};
 ghost use Rattle.std.specs.declared.cmp.Ordering.TheVariants.{Less};
@@ -77,7 +77,7 @@ pub fn items_stand_once(kind: Kind)
     ensures few { (regions : List Region) → IsWellPlaced regions → AreSettled regions → 8 * length regions ≤ 8 + length (items_in regions) }
 {}
 
-/// The key of an item that a pattern meets fits the pattern, so a match may leave out the regions that hold no fitting key.
+/// The key of an item that a pattern meets fits the pattern.
 pub fn what_is_met_fits()
     ensures { (decl : Decl) (pattern t : Tree) (number : ℕ) → IsTrue (is_of decl.pred.name decl.pred.arity pattern) → IsTrue (is_allowed decl t) →
         IsTrue (is_met decl.kind pattern t) → IsTrue (fits (pattern_of decl.keys pattern) (item_key decl.kind decl.keys t number)) }

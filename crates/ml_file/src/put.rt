@@ -48,8 +48,8 @@ fn grow<D: Directory>(regions: &mut Regions<D>, item: Item) -> Result<(), OutOfM
 }
 
 impl BangFile {
-    /// Puts an item into the file, if no item has its key. Where its region has 24 items, it is first split. No region is made thin. A clause is always
-    /// added, since its number is its own. Where the item isn't added nothing changes, and after an error only the room of prefixes may have grown.
+    /// Puts an item into the file, if no item has its key. Where its region has 24 items, it is first split. No region is made thin. The answer `Present`
+    /// comes for tuples alone, since a clause's number is its own, and then nothing changes. After an error only the room of prefixes may have grown.
     pub fn put(&mut self, item: Item) -> Result<Put, OutOfMemory>
         requires { MayCome self.old.decl self.old.regions item }
         ensures ok { IfOk result (λ put. IsPutAs put self.old.regions item self.new.regions) }

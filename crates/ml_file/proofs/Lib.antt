@@ -14,3 +14,7 @@ pub mod Coming
 pub mod Keyable
 pub mod Settling
 pub mod SettleSteps
+pub mod KeyOrdered
+pub mod Loads
+pub mod LoadedFiles
+pub mod Filling

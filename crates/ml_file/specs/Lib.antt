@@ -6,3 +6,4 @@ pub mod Hits
 pub mod Adding
 pub mod Inserting
 pub mod Settled
+pub mod Stores

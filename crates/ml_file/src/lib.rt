@@ -12,6 +12,7 @@ mod mark;
 mod order;
 mod put;
 mod settle_all;
+mod store;
 #[cfg(test)]
 mod tests;
 
@@ -19,3 +20,4 @@ pub use file::{BangFile, Took};
 pub use ml_bits::OutOfMemory;
 pub use put::{MOST_ITEMS, Put};
 pub use settle_all::FEWEST_ITEMS;
+pub use store::Store;

@@ -7,7 +7,8 @@ use Rattle.std.proofs.lemmas.Bool.Decides.{nat_tests}
 use Rattle.std.proofs.lemmas.List.{length-map, map_push}
 use Rattle.std.proofs.lemmas.List.Elements.{filter_map-append}
 use Rattle.ml_search.specs.Db.{loaded_from, is_allowed}
-use Rattle.ml_search.specs.Loading.{first_list, first_lists_from, terms_for}
+use Rattle.ml_search.specs.ItemsSeen.{items_seen}
+use Rattle.ml_search.specs.Loading.{are_items, first_list, first_lists_from, terms_for}
 use Rattle.ml_search.specs.Program.{holds_of}
 use Rattle.ml_search.proofs.Declaring.{up_to}
 use Rattle.ml_term.specs.Seen.{seen}
@@ -19,7 +20,7 @@ use Rattle.ml_term.specs.declared.term.Term.{Term}
 use Rattle.ml_file.specs.Files.{File}
 use Rattle.ml_file.specs.Inserting.{IsInserted}
 use Rattle.ml_file.specs.Settled.{AreSettled, HasSameItems}
-use Rattle.ml_file.specs.Stores.{HasTaken, HaveTaken, HaveTerms, IsLoaded, IsLoadedFile, are_items, empty_file, items_seen}
+use Rattle.ml_file.specs.Stores.{HasTaken, HaveTaken, HaveTerms, IsLoaded, IsLoadedFile, empty_file}
 use Rattle.ml_file.specs.declared.put.Put.{Put}
 use Rattle.ml_file.proofs.LoadedFiles.{loaded_file, taken_settled}
 use Rattle.ml_file.proofs.Loads.{taken_more}

@@ -1,29 +1,19 @@
 -- What the files of a store hold. The code puts items into files one after another; the lists of the first db are made of all items at once.
-use Rattle.std.specs.Prelude.{ℕ, ◌+◌, ◌≡◌, ◌≢◌, ◌≤◌, ◌↔◌, Bool, true, false, Some, List, [], ◌∷◌, length, map, slice_get, Contains}
-use Rattle.std.specs.List.{list_all, All, AllPairs}
+use Rattle.std.specs.Prelude.{ℕ, ◌+◌, ◌≡◌, ◌≢◌, ◌≤◌, ◌↔◌, true, false, Some, List, [], ◌∷◌, length, map, slice_get, Contains}
+use Rattle.std.specs.List.{All, AllPairs}
 use Rattle.ml_key.specs.ItemKeys.{item_key}
 use Rattle.ml_region.specs.Regions.{empty_region}
 use Rattle.ml_region.specs.declared.item.Item.{Item}
-use Rattle.ml_search.specs.Db.{Item as ListItem, at, terms, items as list_at, is_allowed}
+use Rattle.ml_search.specs.Db.{Item as ListItem, at, terms, items as list_at}
 use Rattle.ml_search.specs.Loading.{first_db, terms_for}
-use Rattle.ml_search.specs.Program.{holds_of}
 use Rattle.ml_term.specs.Seen.{seen}
 use Rattle.ml_term.specs.Tree.{Tree}
 use Rattle.ml_term.specs.declared.declaration.Decl.{Decl}
 use Rattle.ml_term.specs.declared.declaration.Kind.{Kind}
 use Rattle.ml_term.specs.declared.declaration.Kind.TheVariants.{Relation, Clauses}
-use Rattle.ml_term.specs.declared.term.Term.{Term}
 use Rattle.ml_file.specs.Files.{File, items_in}
 use Rattle.ml_file.specs.PlainList.{IsListOf}
 use Rattle.ml_file.specs.Settled.{AreSettled}
-
--- whether each item may stand in the list of the declaration at its place
-abbrev pub are_items : List Decl → List (ℕ × Tree) → Bool
-are_items ds es = list_all (λ e. holds_of (λ d. is_allowed d e.1) (slice_get ds e.0)) es
-
--- the items that pairs of places and terms are
-abbrev pub items_seen : List (ℕ × Term) → List (ℕ × Tree)
-items_seen = map (λ e. (e.0, seen e.1))
 
 -- ---- a store
 

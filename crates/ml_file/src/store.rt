@@ -3,10 +3,12 @@ ghost use Rattle.std.specs.Prelude.{◌≡◌, ◌≢◌, ◌^◌, ◌<◌, leng
 ghost use Rattle.std.specs.List.{All};
 ghost use Rattle.ml_file.specs.Files.{items_in};
 ghost use Rattle.ml_file.specs.Inserting.{IsInserted};
-ghost use Rattle.ml_file.specs.Stores.{HaveTaken, IsLoaded, are_items, empty_file, items_seen};
+ghost use Rattle.ml_file.specs.Stores.{HaveTaken, IsLoaded, empty_file};
 ghost use Rattle.ml_file.specs.declared.put.Put.{Put};
 ghost use Rattle.ml_region.specs.declared.item.Item.{Item};
 ghost use Rattle.ml_search.specs.Db.{is_allowed};
+ghost use Rattle.ml_search.specs.ItemsSeen.{items_seen};
+ghost use Rattle.ml_search.specs.Loading.{are_items};
 ghost use Rattle.ml_term.specs.Seen.{seen};
 
 use crate::OutOfMemory;

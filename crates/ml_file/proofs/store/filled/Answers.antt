@@ -4,7 +4,8 @@ use Rattle.ml_search.specs.Db.{is_allowed}
 use Rattle.ml_search.specs.Loading.{terms_for}
 use Rattle.ml_term.specs.Seen.{seen}
 use Rattle.ml_file.specs.Files.{File}
-use Rattle.ml_file.specs.Stores.{HasTaken, items_seen}
+use Rattle.ml_file.specs.Stores.{HasTaken}
+use Rattle.ml_search.specs.ItemsSeen.{items_seen}
 use Rattle.ml_file.proofs.Filling.{HasDecl, IsUnderway, decl_next, file_at, nothing_taken, underway_first, underway_more}
 use Rattle.ml_file.proofs.Loads.{fresh_number}
 use Rattle.ml_file.proofs.store.filled.Goals as goal

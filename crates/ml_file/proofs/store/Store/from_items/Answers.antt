@@ -2,7 +2,8 @@ use Rattle.std.proofs.Common.{◌≡◌, ◌<◌, ◌≤◌, ◌++◌, List, len
 use Rattle.std.proofs.lemmas.List.{take-append-le, take_all}
 use Rattle.std.proofs.lemmas.Option.{slice_get-get_or}
 use Rattle.ml_file.specs.Files.{File}
-use Rattle.ml_file.specs.Stores.{IsLoaded, items_seen}
+use Rattle.ml_file.specs.Stores.{IsLoaded}
+use Rattle.ml_search.specs.ItemsSeen.{items_seen}
 use Rattle.ml_file.proofs.Filling.{all_loaded, settled_more}
 use Rattle.ml_file.proofs.store.Store.from_items.Goals as goal
 

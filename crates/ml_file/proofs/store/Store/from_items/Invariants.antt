@@ -1,4 +1,4 @@
-use Rattle.ml_file.specs.Stores.{items_seen}
+use Rattle.ml_search.specs.ItemsSeen.{items_seen}
 use Rattle.ml_file.proofs.Filling.{AreSettledTo}
 use Rattle.ml_file.proofs.store.Store.from_items.Given as goal
 

@@ -18,6 +18,7 @@ mod tests;
 
 pub use file::{BangFile, Took};
 pub use ml_bits::OutOfMemory;
-pub use put::{MOST_ITEMS, Put};
+pub use ml_split::MOST_ITEMS;
+pub use put::Put;
 pub use settle_all::FEWEST_ITEMS;
 pub use store::Store;

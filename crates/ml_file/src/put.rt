@@ -9,11 +9,8 @@ ghost use Rattle.ml_region.specs.Regions.{IsApart, items_at};
 use crate::OutOfMemory;
 use crate::file::BangFile;
 use ml_region::{Directory, Item, Regions};
-use ml_split::split_for;
+use ml_split::{MOST_ITEMS, split_for};
 use ml_term::Kind;
-
-/// How many items a region has at most between two calls.
-pub const MOST_ITEMS: usize = 24;
 
 /// What a file did with an item that came.
 #[derive(Clone, Copy, Debug, PartialEq, Eq)]

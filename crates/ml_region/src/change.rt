@@ -6,7 +6,7 @@ ghost use Rattle.ml_region.specs.Regions.{HasKey, HasNoKey, IsApart, items_at, r
 
 use crate::directory::Directory;
 use crate::item::{Id, Item};
-use crate::limits::MOST_ITEMS;
+use crate::limits::PAGE_ITEMS;
 use crate::regions::Regions;
 use ml_bits::Bits;
 
@@ -15,7 +15,7 @@ impl<D: Directory> Regions<D> {
     pub fn place(&mut self, item: Item)
         requires apart { IsApart self.old.regions item.key.bits }
         requires few { (i : ℕ) → IsOwner (region_prefixes self.old.regions) item.key.bits i
-            → length (items_at self.old.regions i) < MOST_ITEMS }
+            → length (items_at self.old.regions i) < PAGE_ITEMS }
         ensures regions { IsPut self.old.regions item self.new.regions }
         ensures room { self.new.room ≡ self.old.room }
     {

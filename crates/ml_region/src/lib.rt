@@ -28,7 +28,7 @@ mod tests;
 
 pub use directory::{Directory, Slot};
 pub use item::{Id, Item};
-pub use limits::MOST_ITEMS;
+pub use limits::PAGE_ITEMS;
 pub use ml_bits::OutOfMemory;
 pub use regions::Regions;
 pub use sorted_dir::SortedDir;

@@ -5,7 +5,7 @@ ghost use Rattle.ml_region.specs.Prefixes.{IsParent};
 ghost use Rattle.ml_region.specs.Regions.{items_at, region_at, region_prefixes};
 
 use crate::directory::Directory;
-use crate::limits::MOST_ITEMS;
+use crate::limits::PAGE_ITEMS;
 use crate::moves::pour;
 use crate::places::{parent_slot, slot_of};
 use crate::regions::Regions;
@@ -16,7 +16,7 @@ impl<D: Directory> Regions<D> {
         requires nested { 0 < i }
         requires within { i < length self.old.regions }
         requires few { (parent : ℕ) → IsParent (region_prefixes self.old.regions) (region_at self.old.regions i).prefix parent
-            → length (items_at self.old.regions parent) + length (items_at self.old.regions i) ≤ MOST_ITEMS }
+            → length (items_at self.old.regions parent) + length (items_at self.old.regions i) ≤ PAGE_ITEMS }
         ensures regions { IsMerged self.old.regions i self.new.regions }
         ensures room { self.new.room ≡ self.old.room }
     {

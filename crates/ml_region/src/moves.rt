@@ -7,7 +7,7 @@ ghost use Rattle.ml_region.specs.Prefixes.{IsRising};
 ghost use Rattle.ml_region.specs.Regions.{keys_of};
 ghost use Rattle.ml_region.specs.Stored.{page_at};
 
-use crate::limits::MOST_ITEMS;
+use crate::limits::PAGE_ITEMS;
 use crate::page::Page;
 use ml_bits::Bits;
 
@@ -17,7 +17,7 @@ fn move_to_end(pages: &mut [Page], from: usize, j: usize, to: usize)
     requires to { to < length pages.old }
     requires apart { from ≢ to }
     requires item { j < length (page_at pages.old from) }
-    requires few { length (page_at pages.old to) < MOST_ITEMS }
+    requires few { length (page_at pages.old to) < PAGE_ITEMS }
     ensures { IsMoved pages.old from j to pages.new }
 {
     let item = pages[from].take(j);
@@ -30,7 +30,7 @@ pub(crate) fn move_below(pages: &mut [Page], from: usize, to: usize, prefix: &Bi
     requires from { from < length pages.old }
     requires to { to < length pages.old }
     requires apart { from ≢ to }
-    requires few { length (page_at pages.old from) ≤ MOST_ITEMS }
+    requires few { length (page_at pages.old from) ≤ PAGE_ITEMS }
     requires empty { page_at pages.old to ≡ [] }
     ensures { pages.new ≡ slice_set (slice_set pages.old from
         (items_beside prefix.now.bits (page_at pages.old from))) to (items_below prefix.now.bits (page_at pages.old from)) }
@@ -52,7 +52,7 @@ pub(crate) fn pour(pages: &mut [Page], from: usize, to: usize)
     requires from { from < length pages.old }
     requires to { to < length pages.old }
     requires apart { from ≢ to }
-    requires few { length (page_at pages.old to) + length (page_at pages.old from) ≤ MOST_ITEMS }
+    requires few { length (page_at pages.old to) + length (page_at pages.old from) ≤ PAGE_ITEMS }
     requires rising { IsRising (keys_of (page_at pages.old to)) }
     requires from_rising { IsRising (keys_of (page_at pages.old from)) }
     requires different { (key : List Bool) → Contains (keys_of (page_at pages.old from)) key
@@ -75,7 +75,7 @@ pub(crate) fn pour_and_part(pages: &mut [Page], from: usize, to: usize, prefix: 
     requires from { from < length pages.old }
     requires to { to < length pages.old }
     requires apart { from ≢ to }
-    requires few { length (page_at pages.old to) + length (page_at pages.old from) ≤ MOST_ITEMS }
+    requires few { length (page_at pages.old to) + length (page_at pages.old from) ≤ PAGE_ITEMS }
     requires rising { IsRising (keys_of (page_at pages.old to)) }
     requires from_rising { IsRising (keys_of (page_at pages.old from)) }
     requires different { (key : List Bool) → Contains (keys_of (page_at pages.old from)) key

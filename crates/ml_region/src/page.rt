@@ -7,7 +7,7 @@ ghost use Rattle.ml_region.specs.Regions.{keys_of};
 ghost use Rattle.ml_region.specs.Stored.{IsFirstFrom};
 
 use crate::item::{Id, Item};
-use crate::limits::MOST_ITEMS;
+use crate::limits::PAGE_ITEMS;
 use ml_bits::{Bits, OutOfMemory};
 use std::alloc::Global;
 use std::marker::Model;
@@ -39,7 +39,7 @@ impl Page {
         ensures { IfOk result (λ page. page ≡ []) }
     {
         Ok(Page {
-            items: Vec::with_capacity(alloc, MOST_ITEMS)?,
+            items: Vec::with_capacity(alloc, PAGE_ITEMS)?,
         })
     }
 
@@ -100,7 +100,7 @@ impl Page {
     /// Puts an item at a place.
     pub(crate) fn put(&mut self, j: usize, item: Item)
         requires within { j ≤ length self.old }
-        requires few { length self.old < MOST_ITEMS }
+        requires few { length self.old < PAGE_ITEMS }
         ensures { self.new ≡ insert self.old j item }
     {
         match self.items.insert(j, item) {

@@ -5,7 +5,7 @@ ghost use Rattle.ml_region.specs.Prefixes.{IsParent, bits_at};
 ghost use Rattle.ml_region.specs.Regions.{items_at, keys_at, region_at, region_prefixes};
 
 use crate::directory::Directory;
-use crate::limits::MOST_ITEMS;
+use crate::limits::PAGE_ITEMS;
 use crate::moves::pour_and_part;
 use crate::places::{parent_slot, prefix_among, slot_of};
 use crate::regions::Regions;
@@ -17,7 +17,7 @@ impl<D: Directory> Regions<D> {
         requires nested { 0 < i }
         requires within { i < length self.old.regions }
         requires few { (parent : ℕ) → IsParent (region_prefixes self.old.regions) (region_at self.old.regions i).prefix parent
-            → length (items_at self.old.regions parent) + length (items_at self.old.regions i) ≤ MOST_ITEMS }
+            → length (items_at self.old.regions parent) + length (items_at self.old.regions i) ≤ PAGE_ITEMS }
         requires region { (r ≡ i) ⊎ IsParent (region_prefixes self.old.regions) (region_at self.old.regions i).prefix r }
         requires item { j < length (items_at self.old.regions r) }
         requires longer { (parent : ℕ) → IsParent (region_prefixes self.old.regions) (region_at self.old.regions i).prefix parent

@@ -4,7 +4,7 @@ ghost use Rattle.ml_region.specs.Listing.{IsNewPrefix};
 ghost use Rattle.ml_region.specs.Prefixes.{IsOwner};
 ghost use Rattle.ml_region.specs.Regions.{IsApart, items_at, region_at, region_prefixes};
 
-use crate::{Directory, Id, Item, MOST_ITEMS, OutOfMemory, Regions, SortedDir};
+use crate::{Directory, Id, Item, OutOfMemory, PAGE_ITEMS, Regions, SortedDir};
 use ml_bits::Bits;
 use ml_key::{Pattern, key_of, pattern_of};
 use ml_term::{Args, Decl, Kind, Name, Pred, Term, is_name, is_valid, nodes_up_to};
@@ -83,7 +83,7 @@ fn merged(regions: &mut Regions<SortedDir>, i: usize) -> bool {
         return false;
     };
     let together = regions.count(parent) + regions.count(i);
-    if together > MOST_ITEMS {
+    if together > PAGE_ITEMS {
         return false;
     }
     regions.merge(i);
@@ -171,13 +171,13 @@ fn is_apart(regions: &Regions<SortedDir>, key: &Bits) -> bool
 /// Whether the region that owns a key has place for one more item.
 fn has_place(regions: &Regions<SortedDir>, key: &Bits) -> bool
     ensures { IsTrue result → (i : ℕ) → IsOwner (region_prefixes regions.now.regions) key.now.bits i
-        → length (items_at regions.now.regions i) < MOST_ITEMS }
+        → length (items_at regions.now.regions i) < PAGE_ITEMS }
 {
     let owner = regions.owner_of(key);
     if owner >= regions.len() {
         return false;
     }
-    regions.count(owner) < MOST_ITEMS
+    regions.count(owner) < PAGE_ITEMS
 }
 
 /// Whether no region has a prefix.
@@ -245,7 +245,7 @@ fn recut_at(
     let Some(parent) = regions.parent_of(i) else {
         unreachable!()
     };
-    assert!(rt; regions.count(parent) + regions.count(i) <= MOST_ITEMS);
+    assert!(rt; regions.count(parent) + regions.count(i) <= PAGE_ITEMS);
     assert!(rt; regions.prefix(parent).len() < n);
     assert!(rt; r == i || r == parent);
     assert!(rt; j < regions.count(r));

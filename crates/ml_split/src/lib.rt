@@ -7,6 +7,7 @@
 mod further_key;
 mod keys;
 pub mod laws;
+mod limits;
 mod meeting_keys;
 mod place;
 mod region_keys;
@@ -18,6 +19,7 @@ mod tests;
 
 pub use further_key::split_for;
 pub(crate) use keys::Keys;
+pub use limits::MOST_ITEMS;
 pub use ml_bits::OutOfMemory;
 pub use region_settle::settle;
 pub use region_split::{split, split_prefix};

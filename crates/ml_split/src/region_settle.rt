@@ -6,12 +6,10 @@ ghost use Rattle.ml_region.specs.Regions.{items_at, keys_at, region_at, region_p
 ghost use Rattle.ml_split.specs.RegionSplits.{IsOneOf, IsSettled};
 ghost use Rattle.ml_split.specs.Splitting.{IsFair, IsSplit};
 
+use crate::limits::MOST_ITEMS;
 use crate::meeting_keys::MeetingKeys;
 use crate::place::split_place;
 use ml_region::{Directory, Regions};
-
-/// How many items a region has at most once it is settled.
-pub(crate) const MOST_SETTLED: usize = 24;
 
 /// Moves the items of thin region `i` to its parent, which has at most 24. Where over 24 meet, they are split again by the rule. If no region had over 24
 /// items, none has. It takes no memory: the room is at least the length of every key of the two.
@@ -31,7 +29,7 @@ pub fn settle<D: Directory>(regions: &mut Regions<D>, i: usize)
         unreachable!()
     };
     let _regions = regions.len();
-    if regions.count(i) + regions.count(parent) <= MOST_SETTLED {
+    if regions.count(i) + regions.count(parent) <= MOST_ITEMS {
         regions.merge(i);
         return;
     }

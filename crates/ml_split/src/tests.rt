@@ -10,7 +10,7 @@ ghost use Rattle.ml_split.specs.Splitting.{AreApart};
 use crate::place::{MOST_KEYS, split_place};
 use crate::{Keys, split, split_prefix};
 use ml_bits::{Bits, OutOfMemory};
-use ml_region::{Directory, Id, Item, MOST_ITEMS, Regions, SortedDir};
+use ml_region::{Directory, Id, Item, PAGE_ITEMS, Regions, SortedDir};
 use ml_term::Term;
 use std::alloc::Global;
 use std::process::Abort;
@@ -121,13 +121,13 @@ fn is_apart<D: Directory>(regions: &Regions<D>, key: &Bits) -> bool
 
 /// Whether the region that owns a key has place for one more item.
 fn has_place<D: Directory>(regions: &Regions<D>, key: &Bits) -> bool
-    ensures { IsTrue result → (i : ℕ) → IsOwner (region_prefixes regions.now.regions) key.now.bits i → length (items_at regions.now.regions i) < MOST_ITEMS }
+    ensures { IsTrue result → (i : ℕ) → IsOwner (region_prefixes regions.now.regions) key.now.bits i → length (items_at regions.now.regions i) < PAGE_ITEMS }
 {
     let owner = regions.owner_of(key);
     if owner >= regions.len() {
         return false;
     }
-    regions.count(owner) < MOST_ITEMS
+    regions.count(owner) < PAGE_ITEMS
 }
 
 /// Whether a region would take in a key.

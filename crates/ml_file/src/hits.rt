@@ -68,8 +68,7 @@ impl BangFile {
             ≡ read found.old.items ++ met_by self.now.decl.kind (seen head.now) (items_at self.now.regions i)) }
     {
         let alloc = *found.allocator();
-        for j in 0..self.regions.count(i) {
-            let item = self.regions.item(i, j);
+        for item in self.regions.items(i) {
             if is_met(alloc, &self.decl, head, item)? {
                 found.push(item)?;
             }

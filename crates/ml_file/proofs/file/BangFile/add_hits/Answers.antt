@@ -1,4 +1,4 @@
-use Rattle.std.proofs.Common.{◌≡◌, ◌<◌, true, length, List, sym, ap, subst, arith}
+use Rattle.std.proofs.Common.{◌≡◌, ◌<◌, true, length, get_or, List, sym, ap, ◌∙◌, subst, arith}
 use Rattle.std.proofs.lemmas.List.Elements.{All-contains}
 use Rattle.ml_file.specs.Files.{File, items_in}
 use Rattle.ml_file.proofs.Held.{item_in}
@@ -11,8 +11,10 @@ use Rattle.ml_file.proofs.file.BangFile.add_hits.Goals as goal
 pub is_met-requires-clause-item : goal.is_met-requires-clause-item
 is_met-requires-clause-item c =
     let regions : List Region = c.self.inside.regions.regions in
-    let x : Item = c.item-item.result.now in
+    let items : List Item = items_at regions c.args.i in
+    let x : Item = c.item-item.result in
     let within : c.args.i < length regions = subst (λ (rs : List Region). c.args.i < length rs) (sym (ap (λ (f : File). f.regions) c.self.view_is)) c.requires.region in
-    let inside : c.loop-j.j < length (items_at regions c.args.i) = omega (arith, c.loop-j-test.true, c.loop-j.auto.j-end, c.count-j-end.ensures) in
+    let inside : c.loop-item.item-index < length items = omega (arith, c.loop-item-test.true, ap length c.items-item-items.ensures) in
+    let there : x ≡ get_or items c.loop-item.item-index x = c.item-item.is ∙ ap (λ xs. get_or xs c.loop-item.item-index x) c.items-item-items.ensures in
     All-contains (λ (y : Item). is_allowed c.self.inside.decl (seen y.term) ≡ true) (items_in regions) x c.self.invariant.allowed
-    (item_in regions c.args.i x within (c.loop-j.j, inside, sym c.item-item.ensures))
+    (item_in regions c.args.i x within (c.loop-item.item-index, inside, sym there))

@@ -4,5 +4,5 @@ use Rattle.ml_region.specs.Regions.{items_at}
 use Rattle.ml_term.specs.Seen.{seen}
 use Rattle.ml_file.proofs.file.BangFile.add_hits.Given as goal
 
-abbrev pub invariant-loop-j : goal.invariant-loop-j
-invariant-loop-j l = read l.found.items ≡ read l.fn.found.items ++ met_by l.self.decl.kind (seen l.head) (take l.j (items_at l.self.regions l.i))
+abbrev pub invariant-loop-item : goal.invariant-loop-item
+invariant-loop-item l = read l.found.items ≡ read l.fn.found.items ++ met_by l.self.decl.kind (seen l.head) (take l.item-index (items_at l.self.regions l.i))

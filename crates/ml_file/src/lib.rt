@@ -14,6 +14,8 @@ mod put;
 mod settle_all;
 mod store;
 #[cfg(test)]
+mod store_tests;
+#[cfg(test)]
 mod tests;
 
 pub use file::{BangFile, Took};

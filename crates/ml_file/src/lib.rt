@@ -4,14 +4,22 @@
 //! has over 24 items between two calls.
 #![tactic(auto)]
 
+#[cfg(test)]
+mod clause_tests;
 mod file;
 mod hits;
+#[cfg(test)]
+mod hits_tests;
 mod insert;
 pub mod laws;
 mod mark;
 mod order;
 mod put;
+#[cfg(test)]
+mod random_tests;
 mod settle_all;
+#[cfg(test)]
+mod test_terms;
 #[cfg(test)]
 mod tests;
 

@@ -4,17 +4,25 @@
 //! has over 24 items between two calls.
 #![tactic(auto)]
 
+#[cfg(test)]
+mod clause_tests;
 mod file;
 mod hits;
+#[cfg(test)]
+mod hits_tests;
 mod insert;
 pub mod laws;
 mod mark;
 mod order;
 mod put;
+#[cfg(test)]
+mod random_tests;
 mod settle_all;
 mod store;
 #[cfg(test)]
 mod store_tests;
+#[cfg(test)]
+mod test_terms;
 #[cfg(test)]
 mod tests;
 

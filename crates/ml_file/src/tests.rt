@@ -1,36 +1,22 @@
 //! A file without items, and the files of the worked rows.
-ghost use Rattle.std.specs.Prelude.{◌≡◌, IsTrue};
-ghost use Rattle.ml_search.specs.Db.{is_allowed};
-ghost use Rattle.ml_search.specs.Program.{is_of};
-ghost use Rattle.ml_term.specs.Seen.{seen};
-
-use crate::{BangFile, Put, Took};
+use crate::test_terms::{compound_1, declared, insert_tuple, is_pattern, tuple_key};
+use crate::{BangFile, OutOfMemory, Put, Took};
 use ml_bits::Bits;
-use ml_key::key_of;
-use ml_term::{
-    Args, Decl, Keys, Kind, Name, Pred, Term, canonical_len_up_to, is_ground, is_name, is_valid,
-    nodes_up_to,
-};
+use ml_term::{Decl, Kind, Term};
 use std::alloc::{AllocError, Global};
 use std::process::Abort;
 use std::test::Fail;
 
 /// The relation p/1.
-fn declared(rt: &impl Abort, alloc: Global) -> Result<Decl, AllocError> {
-    let name = b"p".as_slice();
-    assert!(rt; is_name(name));
-    let pred = Pred {
-        name: Name::new(alloc, name)?,
-        arity: 1,
-    };
-    Ok(Decl::new(pred, Kind::Relation, Keys::default_of(alloc, 1)?))
+fn relation(rt: &impl Abort, alloc: Global) -> Result<Decl, AllocError> {
+    declared(rt, alloc, b"p", 1, Kind::Relation, [1].as_slice())
 }
 
 /// Nothing is found in a new file, and nothing is taken out of it.
 #[test]
 fn a_new_file_has_no_items(rt: HostRuntime) -> Result<(), Fail> {
     let alloc = rt.alloc();
-    let mut file = BangFile::new(alloc, declared(&rt, alloc)?)?;
+    let mut file = BangFile::new(alloc, relation(&rt, alloc)?)?;
     let key = Bits::from_bytes(alloc, b"key", 24)?;
     assert_eq!(rt; file.len(), 1);
     assert!(rt; file.decl().kind == Kind::Relation);
@@ -41,33 +27,9 @@ fn a_new_file_has_no_items(rt: HostRuntime) -> Result<(), Fail> {
     Ok(())
 }
 
-/// Whether a term is a compound of this predicate.
-fn is_named(t: &Term, pred: &Pred) -> bool
-    ensures { IsTrue result → IsTrue (is_of pred.now.name pred.now.arity (seen t.now)) }
-{
-    match t {
-        Term::Cmp(f, ts) => f.is(&pred.name) && ts.as_slice().len() == usize::from(pred.arity),
-        _ => false,
-    }
-}
-
-/// Whether a declaration is a relation, whose list may have a tuple.
-fn may_have(decl: &Decl, t: &Term) -> bool
-    ensures kind { IsTrue result → decl.now.kind ≡ Kind.Relation }
-    ensures allowed { IsTrue result → IsTrue (is_allowed decl.now (seen t.now)) }
-{
-    if decl.kind != Kind::Relation {
-        return false;
-    }
-    is_valid(t) && is_named(t, &decl.pred) && is_ground(t) && canonical_len_up_to(t, 4096) <= 4096
-}
-
 /// The tuple p(n).
 fn tuple(rt: &impl Abort, alloc: Global, number: i64) -> Result<Term, AllocError> {
-    let name = b"p".as_slice();
-    assert!(rt; is_name(name));
-    let arguments = vec![in alloc; Term::Int(number)]?;
-    Ok(Term::Cmp(Name::new(alloc, name)?, Args::new(arguments)))
+    compound_1(rt, alloc, b"p", Term::Int(number))
 }
 
 /// Inserts p(n).
@@ -76,10 +38,9 @@ fn insert(
     alloc: Global,
     file: &mut BangFile,
     number: i64,
-) -> Result<Put, AllocError> {
+) -> Result<Put, OutOfMemory> {
     let t = tuple(rt, alloc, number)?;
-    assert!(rt; may_have(file.decl(), &t));
-    file.insert(t, 0)
+    insert_tuple(rt, file, t)
 }
 
 /// Takes p(n) out.
@@ -88,11 +49,9 @@ fn remove(
     alloc: Global,
     file: &mut BangFile,
     number: i64,
-) -> Result<Took, AllocError> {
+) -> Result<Took, OutOfMemory> {
     let t = tuple(rt, alloc, number)?;
-    assert!(rt; may_have(file.decl(), &t));
-    assert!(rt; nodes_up_to(&t, 4096) <= 4096);
-    let key = key_of(alloc, file.decl(), &t, 0)?;
+    let key = tuple_key(rt, alloc, file, &t)?;
     Ok(file.remove(&key))
 }
 
@@ -114,7 +73,7 @@ fn last_prefix(rt: &impl Abort, file: &BangFile) -> usize {
 
 /// The file of p(0) to p(24).
 fn first_file(rt: &impl Abort, alloc: Global) -> Result<BangFile, AllocError> {
-    let mut file = BangFile::new(alloc, declared(rt, alloc)?)?;
+    let mut file = BangFile::new(alloc, relation(rt, alloc)?)?;
     for number in 0..25 {
         assert!(rt; insert(rt, alloc, &mut file, number)? == Put::Added);
     }
@@ -159,19 +118,9 @@ fn splits_again_after_a_merge(rt: HostRuntime) -> Result<(), Fail> {
     Ok(())
 }
 
-/// The pattern p(X).
-fn any(rt: &impl Abort, alloc: Global) -> Result<Term, AllocError> {
-    let name = b"p".as_slice();
-    assert!(rt; is_name(name));
-    let arguments = vec![in alloc; Term::Var(0)]?;
-    Ok(Term::Cmp(Name::new(alloc, name)?, Args::new(arguments)))
-}
-
 /// The tuples that a pattern meets.
-fn met(rt: &impl Abort, file: &BangFile, pattern: &Term) -> Result<Vec<Term>, AllocError> {
-    assert!(rt; is_valid(pattern));
-    assert!(rt; is_named(pattern, &file.decl().pred));
-    assert!(rt; nodes_up_to(pattern, 4096) <= 4096);
+fn met(rt: &impl Abort, file: &BangFile, pattern: &Term) -> Result<Vec<Term>, OutOfMemory> {
+    assert!(rt; is_pattern(pattern, file.decl()));
     file.matches(pattern)
 }
 
@@ -192,7 +141,8 @@ fn a_pattern_meets_tuples_of_all_regions(rt: HostRuntime) -> Result<(), Fail> {
     let alloc = rt.alloc();
     let file = first_file(&rt, alloc)?;
     let mut number = 0;
-    for t in met(&rt, &file, &any(&rt, alloc)?)?.iter() {
+    let any = compound_1(&rt, alloc, b"p", Term::Var(0))?;
+    for t in met(&rt, &file, &any)?.iter() {
         assert!(rt; number < 25);
         assert!(rt; is_of_number(t, number));
         number += 1;

@@ -1,3 +1,4 @@
+-- A compound with the predicate's name and as many arguments is of the predicate.
 use Rattle.std.proofs.Common.{◌≡◌, ℕ, List, length, true, sym, ap, ◌∙◌, subst, eqb-true, eq-eqb}
 use Rattle.std.specs.Prelude.{◌==◌}
 use Rattle.std.specs.Str.{bytes_eq}
@@ -8,7 +9,7 @@ use Rattle.ml_term.specs.Seen.{seen, all_seen}
 use Rattle.ml_term.specs.Tree.{compound, arity, trees_of}
 use Rattle.ml_term.proofs.Sizes.{arity_of_trees}
 use Rattle.ml_term.proofs.Views.{seen_compound}
-use Rattle.ml_file.proofs.tests.is_named.Goals as goal
+use Rattle.ml_file.proofs.test_terms.is_of.Goals as goal
 
 pub returns-then-is : goal.returns-then-is
 returns-then-is c t =

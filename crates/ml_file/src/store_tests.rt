@@ -1,7 +1,8 @@
 //! Stores from items.
 ghost use Rattle.std.specs.Prelude.{◌≡◌, IfOk, IsTrue};
-ghost use Rattle.ml_file.specs.Stores.{are_items, items_seen};
 ghost use Rattle.ml_search.specs.Db.{is_allowed};
+ghost use Rattle.ml_search.specs.ItemsSeen.{items_seen};
+ghost use Rattle.ml_search.specs.Loading.{are_items};
 ghost use Rattle.ml_term.specs.Seen.{seen};
 
 use crate::test_terms::{atom, compound_1, compound_2, declared, is_clause, is_pattern, is_tuple};

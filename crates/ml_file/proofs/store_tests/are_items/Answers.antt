@@ -7,7 +7,8 @@ use Rattle.ml_search.specs.Program.{holds_of}
 use Rattle.ml_term.specs.Seen.{seen}
 use Rattle.ml_term.specs.declared.declaration.Decl.{Decl}
 use Rattle.ml_term.specs.declared.term.Term.{Term}
-use Rattle.ml_file.specs.Stores.{are_items, items_seen}
+use Rattle.ml_search.specs.ItemsSeen.{items_seen}
+use Rattle.ml_search.specs.Loading.{are_items}
 use Rattle.ml_file.proofs.store_tests.are_items.Goals as goal
 
 one_item_more : (ds : List Decl) (es : List (ℕ × Term)) (e : ℕ × Term) → are_items ds (items_seen es) ≡ true → holds_of (λ d. is_allowed d (seen e.1)) (slice_get ds e.0) ≡ true

@@ -1,5 +1,6 @@
 use Rattle.std.proofs.Common.{◌≡◌, true, take}
-use Rattle.ml_file.specs.Stores.{are_items, items_seen}
+use Rattle.ml_search.specs.ItemsSeen.{items_seen}
+use Rattle.ml_search.specs.Loading.{are_items}
 use Rattle.ml_file.proofs.store_tests.are_items.Given as goal
 
 -- the items so far are items

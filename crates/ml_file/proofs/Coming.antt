@@ -4,6 +4,7 @@ use Rattle.std.specs.Prelude.{Contains, IsTrue, ◌≢◌}
 use Rattle.std.specs.List.{All}
 use Rattle.std.proofs.lemmas.List.Elements.{All-contains, Contains-get_or}
 use Rattle.ml_bits.specs.BitList.{Begins}
+use Rattle.ml_bits.proofs.OrderLaws.{begins_itself}
 use Rattle.ml_key.specs.ItemKeys.{item_key}
 use Rattle.ml_key.proofs.Beginnings.{tuples_differ, clauses_differ}
 use Rattle.ml_region.specs.Regions.{Region, IsApart, items_at, keys_at}
@@ -17,7 +18,7 @@ use Rattle.ml_term.specs.declared.declaration.Decl.{Decl}
 use Rattle.ml_term.specs.declared.declaration.Kind.{Kind}
 use Rattle.ml_term.specs.declared.declaration.Kind.TheVariants.{Relation, Clauses}
 use Rattle.ml_file.specs.Adding.{MayCome}
-use Rattle.ml_file.specs.Files.{items_in, IsAbsent, IsFile}
+use Rattle.ml_file.specs.Files.{items_in, IsAbsent, IsFile, IsHeld}
 use Rattle.ml_file.specs.PlainList.{IsWith}
 use Rattle.ml_file.proofs.Orders.{contains_cases, contains_first, contains_later}
 use Rattle.ml_file.proofs.Held.{LiesIn, item_lies, item_in, contains_key}
@@ -72,6 +73,18 @@ apart_new decl regions room item file may fits absent i other h there =
           (λ e. differ (its ∙ sym e ∙ sym may.keyed))
           (subst (Begins (item_key decl.kind decl.keys (seen item.term) item.number)) (sym found.key_is ∙ its) (subst (λ k. Begins k other) may.keyed begin)),
     )
+
+-- a clause that may come has a number of its own, so no item has its key
+pub clause_absent : (decl : Decl) (regions : List Region) (room : ℕ) (item x : Item) → IsFile decl regions room → MayCome decl regions item → item.number < 2 ^ 64
+    → IsHeld regions item.key.bits x → decl.kind ≡ Clauses → ⊥
+clause_absent decl regions room item x file may fits held kind =
+    let its : x.key.bits ≡ item_key decl.kind decl.keys (seen x.term) x.number =
+    All-contains (λ (y : Item). y.key.bits ≡ item_key decl.kind decl.keys (seen y.term) y.number) (items_in regions) x file.keyed held.inside in
+    let small : x.number < 2 ^ 64 = All-contains (λ (y : Item). y.number < 2 ^ 64) (items_in regions) x file.fit held.inside in
+    let own : List Bool = item_key decl.kind decl.keys (seen x.term) x.number in
+    let begin : Begins own (item_key decl.kind decl.keys (seen item.term) item.number) = subst (Begins own) (sym its ∙ held.key_is ∙ may.keyed) (begins_itself own) in
+    All-contains (λ (y : Item). y.number ≢ item.number) (items_in regions) x (may.numbered kind) held.inside
+    (clauses_differ decl.kind kind decl.keys (seen x.term) (seen item.term) x.number item.number small fits begin)
 
 -- ---- what the file keeps
 

@@ -4,7 +4,7 @@ use Rattle.std.specs.Prelude.{Contains}
 use Rattle.std.specs.List.{All, AllPairs, filter}
 use Rattle.std.specs.declared.cmp.Ordering.TheVariants.{Equal}
 use Rattle.std.proofs.lemmas.List.{length-map}
-use Rattle.std.proofs.lemmas.List.Elements.{All-filter, All-contains_itself, Contains-append_cases, Contains-get_or}
+use Rattle.std.proofs.lemmas.List.Elements.{Contains-append_cases, Contains-get_or}
 use Rattle.std.proofs.lemmas.List.Kept.{AllPairs-cons, AllPairs-filter}
 use Rattle.ml_term.specs.declared.declaration.Decl.{Decl}
 use Rattle.ml_term.specs.declared.declaration.Kind.{Kind}
@@ -66,18 +66,20 @@ items_differ regions well = pairs_from regions inside across
         let same : i ≡ j = one_owner (region_prefixes regions) x.key.bits i j well.rising first second in
         omega (arith, same, l)
 
--- and so no two of some of them are equal in the order of items
-pub some_differ : (decl : Decl) (regions : List Region) (room : ℕ) (test : Item → Bool) → IsWellPlaced regions → IsFile decl regions room
-    → AllPairs (λ a b. item_cmp decl.kind a b ≢ Equal) (filter test (items_in regions))
-some_differ decl regions room test well file i j d l h =
+-- and so no two of them are equal in the order of items
+pub all_differ : (decl : Decl) (regions : List Region) (room : ℕ) → IsWellPlaced regions → IsFile decl regions room → AllPairs (λ a b. item_cmp decl.kind a b ≢ Equal) (items_in regions)
+all_differ decl regions room well file i j d l h =
     let items : List Item = items_in regions in
-    let met : List Item = filter test items in
-    let there : All (Contains items) met = All-filter test (Contains items) items (All-contains_itself items) in
-    let x : Item = get_or met i d in
-    let y : Item = get_or met j d in
-    let apart : DifferByKey x y = AllPairs-filter DifferByKey test items (items_differ regions well) i j d l h in
-    differ x y (there i d (omega (arith, l, h))) (there j d h) apart decl.kind refl
+    let x : Item = get_or items i d in
+    let y : Item = get_or items j d in
+    differ x y (Contains-get_or items i d (omega (arith, l, h))) (Contains-get_or items j d h) (items_differ regions well i j d l h) decl.kind refl
   where
     differ : (x y : Item) → Contains (items_in regions) x → Contains (items_in regions) y → DifferByKey x y → (kind : Kind) → decl.kind ≡ kind → item_cmp kind x y ≢ Equal
     differ x y a b apart Relation is e = apart (equal_keys x y e)
     differ x y a b apart Clauses is e = apart (ap (λ (z : Item). z.key.bits) (file.numbers is x y a b (equal_numbers x y e)))
+
+-- nor are two of some of them
+pub some_differ : (decl : Decl) (regions : List Region) (room : ℕ) (test : Item → Bool) → IsWellPlaced regions → IsFile decl regions room
+    → AllPairs (λ a b. item_cmp decl.kind a b ≢ Equal) (filter test (items_in regions))
+some_differ decl regions room test well file =
+    AllPairs-filter (λ a b. item_cmp decl.kind a b ≢ Equal) test (items_in regions) (all_differ decl regions room well file)

@@ -125,7 +125,7 @@ cut_from old i p new h cut x there =
 
 -- ---- an item comes
 
-put_within : (old : List Region) (item : Item) (new : List Region) (put : IsPut old item new) → put.region < length old
+pub put_within : (old : List Region) (item : Item) (new : List Region) (put : IsPut old item new) → put.region < length old
 put_within old item new put = omega (arith, put.owner.within, length-map old (λ (r : Region). r.prefix))
 
 pub put_items : (old : List Region) (item : Item) (new : List Region) → IsPut old item new → IsWith (items_in old) item (items_in new)

@@ -79,7 +79,7 @@ other_in regions i k items x h d there =
     item_in (with_items regions i items) k x (omega (arith, with_items_length regions i items)) (subst (λ xs. Contains xs x) (sym (items_other regions i k items d)) there)
 
 -- the elements of a list from which one was removed are those at other places
-after_remove : {X : Type 0} (xs : List X) (j : ℕ) (x z : X) → j < length xs → get_or xs j x ≡ x → Contains xs z → Contains (remove xs j) z ⊎ (z ≡ x)
+pub after_remove : {X : Type 0} (xs : List X) (j : ℕ) (x z : X) → j < length xs → get_or xs j x ≡ x → Contains xs z → Contains (remove xs j) z ⊎ (z ≡ x)
 after_remove xs j x z l e there =
     elim (contains_cases x z (remove xs j) (Contains-permutation xs (x ∷ remove xs j) z (IsPermutation-remove xs j x l (sym e)) there)) [
       | inl s ↦ inr (sym s)

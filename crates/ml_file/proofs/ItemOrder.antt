@@ -114,7 +114,7 @@ apart_from_pairs R turned xs pairs i j d h k n =
       | inr l ↦ turned _ _ (pairs j i d (omega (arith, l, n)) h)
     ]
 
-less_from : (o r : Ordering) → o ≡ ordering_reverse r → is_lt r ≡ false → (o ≢ Equal) → o ≡ Less
+pub less_from : (o r : Ordering) → o ≡ ordering_reverse r → is_lt r ≡ false → (o ≢ Equal) → o ≡ Less
 less_from o Less e h n = absurd (cc h)
 less_from o Equal e h n = absurd (n e)
 less_from o Greater e h n = e

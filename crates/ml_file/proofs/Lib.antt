@@ -5,8 +5,11 @@ pub mod Marked
 pub mod ItemOrder
 pub mod StoredHeads
 pub mod Differing
+pub mod ListSteps
+pub mod Counted
 pub mod Meeting
 pub mod Grown
+pub mod NoneThin
 pub mod Coming
 pub mod Keyable
 pub mod Settling

@@ -33,21 +33,24 @@ use Rattle.ml_file.proofs.StoredHeads.{stored_head_is, stored_head_is_head}
 -- ---- keys of items that are met
 
 -- the key of an item that a pattern meets fits the pattern
-met_fits : (d : Decl) (pattern : Tree) (x : Item) → is_head pattern ≡ true → is_allowed d (seen x.term) ≡ true → x.key.bits ≡ item_key d.kind d.keys (seen x.term) x.number
-    → is_met d.kind pattern (seen x.term) ≡ true → fits (pattern_of d.keys pattern) x.key.bits ≡ true
-met_fits d pattern x head allowed keyed met =
-    let t : Tree = seen x.term in
+pub met_key_fits : (d : Decl) (pattern t : Tree) (number : ℕ) → is_head pattern ≡ true → is_allowed d t ≡ true → is_met d.kind pattern t ≡ true
+    → fits (pattern_of d.keys pattern) (item_key d.kind d.keys t number) ≡ true
+met_key_fits d pattern t number head allowed met =
     let h : Tree = stored_head d.kind t in
     let same : h ≡ item_head d.kind t = stored_head_is d t allowed in
     let both : HaveACommonInstance pattern (item_head d.kind t) =
     subst (HaveACommonInstance pattern) same (instance_of (above (variables pattern)) pattern h (apart_from_pattern pattern h) met) in
     let is : is_head (item_head d.kind t) ≡ true = subst (λ u. is_head u ≡ true) same (stored_head_is_head d t allowed) in
-    subst (λ k. fits (pattern_of d.keys pattern) k ≡ true) (sym keyed) (by d.kind both is)
+    by d.kind both is
   where
-    by : (kind : Kind) → HaveACommonInstance pattern (item_head kind (seen x.term)) → is_head (item_head kind (seen x.term)) ≡ true
-        → fits (pattern_of d.keys pattern) (item_key kind d.keys (seen x.term) x.number) ≡ true
-    by Relation both is = key_fits d.keys pattern (seen x.term) (byte_bits (bytes_of (seen x.term))) head is both
-    by Clauses both is = key_fits d.keys pattern (item_head Clauses (seen x.term)) (bits 64 x.number) head is both
+    by : (kind : Kind) → HaveACommonInstance pattern (item_head kind t) → is_head (item_head kind t) ≡ true → fits (pattern_of d.keys pattern) (item_key kind d.keys t number) ≡ true
+    by Relation both is = key_fits d.keys pattern t (byte_bits (bytes_of t)) head is both
+    by Clauses both is = key_fits d.keys pattern (item_head Clauses t) (bits 64 number) head is both
+
+met_fits : (d : Decl) (pattern : Tree) (x : Item) → is_head pattern ≡ true → is_allowed d (seen x.term) ≡ true → x.key.bits ≡ item_key d.kind d.keys (seen x.term) x.number
+    → is_met d.kind pattern (seen x.term) ≡ true → fits (pattern_of d.keys pattern) x.key.bits ≡ true
+met_fits d pattern x head allowed keyed met =
+    subst (λ k. fits (pattern_of d.keys pattern) k ≡ true) (sym keyed) (met_key_fits d pattern (seen x.term) x.number head allowed met)
 
 -- ---- the regions that may hold a fitting key
 

@@ -1,7 +1,7 @@
 -- One step of settling a file.
-use Rattle.std.proofs.Common.{◌≡◌, inl, inr, ℕ, ◌<◌, ◌≤◌, Bool, true, ltb, List, ◌++◌, length, get_or, sym, ap, ◌∙◌, subst, arith}
+use Rattle.std.proofs.Common.{◌≡◌, inl, inr, ℕ, ◌<◌, ◌≤◌, Bool, true, ltb, List, ◌++◌, length, get_or, refl, sym, ap, ◌∙◌, subst, arith}
 use Rattle.std.specs.List.{All}
-use Rattle.std.proofs.lemmas.Bool.{and_parts, cases_lt, ltb-true}
+use Rattle.std.proofs.lemmas.Bool.{and_parts, both_ways, cases_lt, ltb-true}
 use Rattle.std.proofs.lemmas.List.Elements.{All-append, All-contains, Contains-get_or}
 use Rattle.ml_region.specs.Regions.{Region, IsWellPlaced, items_at, keys_at, region_at}
 use Rattle.ml_region.specs.declared.item.Item.{Item}
@@ -9,7 +9,7 @@ use Rattle.ml_split.specs.RegionSplits.{IsSettled, goes_in, splits_again}
 use Rattle.ml_split.specs.Splitting.{IsFair}
 use Rattle.ml_split.proofs.RegionKeys.{one_parent}
 use Rattle.ml_file.specs.Files.{items_in}
-use Rattle.ml_file.specs.Settled.{is_thin, HasSameItems}
+use Rattle.ml_file.specs.Settled.{is_thin, AreSettled, AreSettledBefore, HasSameItems, IsFirstThin, IsSettledThrough, at_rest, one_more}
 use Rattle.ml_file.proofs.Coming.{HasKeyOf, key_of_one}
 use Rattle.ml_file.proofs.Held.{item_in}
 use Rattle.ml_file.proofs.Settling.{Recut, goes_facts, recut_facts}
@@ -43,7 +43,7 @@ both_room regions room i p h k roomy =
 
 -- what is known after one step
 pub settled_facts : (old : List Region) (i : ℕ) (new : List Region) → IsWellPlaced old → i < length old → is_thin (region_at old i) ≡ true
-    → ((k : ℕ) → k < length old → length (items_at old k) ≤ 24) → IsSettled old i new → Recut old new
+    → ((k : ℕ) → k < length old → length (items_at old k) ≤ 24) → IsSettled old i new → Recut old i new
 settled_facts old i new well h thin few (goes_in parent is_parent little merged) =
     let same : parent ≡ merged.parent = one_parent old well (region_at old i).prefix parent merged.parent is_parent merged.is_parent in
     goes_facts old i new well h thin few merged (subst (λ p. length (keys_at old i ++ keys_at old p) ≤ 24) same little)
@@ -62,18 +62,30 @@ pub all_same : (P : Item → Type 0) (old new : List Region) → HasSameItems ol
 all_same P old new same all = all_of P (items_in old) (items_in new) (λ x h. (same.same x).0 h) all
 
 -- what holds at each step
-pub record IsSettling (start : List Region) (room : ℕ) (regions : List Region) (now : ℕ) : Type 0 where
+pub record IsSettling (start : List Region) (room : ℕ) (regions : List Region) (now from : ℕ) : Type 0 where
   pub few : (k : ℕ) → k < length regions → length (items_at regions k) ≤ 24
   pub roomy : All (λ (x : Item). length x.key.bits ≤ now) (items_in regions)
   pub same : HasSameItems start regions
   pub room_is : now ≡ room
+  pub reached : from ≤ length regions
+  pub ahead : AreSettledBefore regions from
+  pub on : (end : List Region) → IsSettledThrough regions end → IsSettledThrough start end
 
-pub settling_on : (start : List Region) (room : ℕ) (old : List Region) (before : ℕ) (new : List Region) (after : ℕ) → IsSettling start room old before → Recut old new → after ≡ before
-    → IsSettling start room new after
-settling_on start room old before new after was step e =
+-- the first thin region was settled
+pub settling_on : (start : List Region) (room : ℕ) (old : List Region) (before from : ℕ) (new : List Region) (after i : ℕ) → IsSettling start room old before from → IsFirstThin old i
+    → IsSettled old i new → Recut old i new → after ≡ before → IsSettling start room new after i
+settling_on start room old before from new after i was thin settled step e =
     record {
       few = step.few;
       roomy = all_same (λ (x : Item). length x.key.bits ≤ after) old new step.same (subst (λ r. All (λ (x : Item). length x.key.bits ≤ r) (items_in old)) (sym e) was.roomy);
       same = same_through start old new was.same step.same;
       room_is = e ∙ was.room_is;
+      reached = step.within;
+      ahead = step.ahead thin.first;
+      on = λ end rest. was.on end (one_more new i thin settled rest);
     }
+
+-- a settled file stays as it was
+pub rests : (old new : List Region) → IsSettledThrough old new → AreSettled old → new ≡ old
+rests old new (at_rest settled) _ = refl
+rests old new (one_more middle i first step rest) settled = absurd (both_ways (is_thin (region_at old i)) (settled i first.within) first.thin)

@@ -3,9 +3,9 @@ use Rattle.std.proofs.Common.{◌≡◌, ◌⊎◌, inl, inr, ℕ, suc, ◌+◌,
 use Rattle.std.specs.Prelude.{Contains}
 use Rattle.std.specs.List.{filter, insert, remove}
 use Rattle.std.specs.List.Sorted.{IsPermutation}
-use Rattle.std.proofs.lemmas.Bool.{and_parts, and_right, cases_eq, cases_lt, lt-ltb, ltb-true, le-ltb}
+use Rattle.std.proofs.lemmas.Bool.{and_parts, and_right, both_ways, cases_eq, cases_lt, false_from_ne_true, lt-ltb, ltb-true, le-ltb}
 use Rattle.std.proofs.lemmas.List.{length-map, set_split, take-append-drop}
-use Rattle.std.proofs.lemmas.List.Edits.{length-remove}
+use Rattle.std.proofs.lemmas.List.Edits.{length-insert, length-remove}
 use Rattle.std.proofs.lemmas.List.Elements.{Contains-append_left, Contains-append_right, Contains-append_cases, filter-append}
 use Rattle.std.proofs.lemmas.List.Sorted.{Contains-permutation, IsPermutation-sym, length_permutation, sum_by-IsPermutation}
 use Rattle.std.proofs.lemmas.List.Sums.{length-filter}
@@ -13,15 +13,16 @@ use Rattle.ml_term.specs.Patterns.{begins}
 use Rattle.ml_region.specs.Regions.{Region, IsWellPlaced, items_at, keys_at, region_at, empty_region, with_items}
 use Rattle.ml_region.specs.Changes.{IsMerged, IsRecut, items_below, items_beside}
 use Rattle.ml_region.specs.declared.item.Item.{Item}
-use Rattle.ml_region.proofs.Lists.{in_remove, stays, moves}
+use Rattle.ml_region.proofs.Lists.{in_insert, in_front, itself, behind, in_remove, stays, moves}
 use Rattle.ml_region.proofs.Merging.{parent_before}
-use Rattle.ml_region.proofs.Placed.{with_items_length, items_same, items_other, region_at_other}
+use Rattle.ml_region.proofs.Placed.{with_items_length, items_same, items_other, region_at_same, region_at_other}
 use Rattle.ml_split.specs.Splitting.{count_under, IsFair}
 use Rattle.ml_split.proofs.RegionKeys.{parent_within}
 use Rattle.ml_file.specs.Files.{items_in}
-use Rattle.ml_file.specs.Settled.{is_thin, HasSameItems}
+use Rattle.ml_file.specs.Settled.{is_thin, AreSettledBefore, HasSameItems}
 use Rattle.ml_file.proofs.Held.{LiesIn, item_lies, item_in}
 use Rattle.ml_file.proofs.Grown.{below_count, both_sizes, cut_from, cut_to, located, place_within}
+use Rattle.ml_file.proofs.NoneThin.{full_not_thin, fuller_thin}
 
 -- ---- sums over regions
 
@@ -89,6 +90,7 @@ pub record Merged (old : List Region) (i : ℕ) (middle : List Region) (merged :
   pub others : (k : ℕ) → k < length middle → (k ≡ merged.parent → ⊥) → (m : ℕ) × (m < length old) × (items_at middle k ≡ items_at old m)
   pub fewer : thins middle + 1 ≤ thins old
   pub same : HasSameItems old middle
+  pub ahead : (k : ℕ) → k < i → is_thin (region_at middle k) ≡ true → is_thin (region_at old k) ≡ true
 
 both_in : (a b items : List Item) (x : Item) → IsPermutation (a ++ b) items → Contains items x → Contains a x ⊎ Contains b x
 both_in a b items x order there = Contains-append_cases a b x (Contains-permutation items (a ++ b) x (IsPermutation-sym (a ++ b) items order) there)
@@ -164,6 +166,11 @@ merged_facts old i middle well h thin merged =
             ]
       ]
     ] in
+    let ahead : (k : ℕ) → k < i → is_thin (region_at rests k) ≡ true → is_thin (region_at old k) ≡ true = λ k l t.
+    elim (in_remove all i empty_region k h') [
+      | stays m s ↦ fuller_thin old p items k in_old (omega (arith, total, sizes)) (subst (λ r. is_thin r ≡ true) s t)
+      | moves m s ↦ absurd (omega arith)
+    ] in
     let e : middle ≡ rests = merged.same in
     record {
       before = before;
@@ -173,6 +180,7 @@ merged_facts old i middle well h thin merged =
       others = λ k l d. let other = far k (omega (arith, ap length e)) d in (other.0, other.1, ap (λ rs. items_at rs k) e ∙ other.2);
       fewer = omega (arith, ap thins e, count_set, count_remove, stays_thin, no_thinner);
       same = record { same = λ x. (λ there. to x (subst (λ rs. Contains (items_in rs) x) e there), λ there. subst (λ rs. Contains (items_in rs) x) (sym e) (from x there)) };
+      ahead = λ k l t. ahead k l (subst (λ rs. is_thin (region_at rs k) ≡ true) e t);
     }
 
 -- ---- and is split again
@@ -194,14 +202,16 @@ met_below old i p prefix items order =
     omega (arith, first, second, third, below_count prefix a, below_count prefix b)
 
 -- what is known where both are split again
-pub record Recut (old : List Region) (new : List Region) : Type 0 where
+pub record Recut (old : List Region) (i : ℕ) (new : List Region) : Type 0 where
   pub fewer : thins new + 1 ≤ thins old
   pub same : HasSameItems old new
   pub few : (k : ℕ) → k < length new → length (items_at new k) ≤ 24
+  pub within : i ≤ length new
+  pub ahead : AreSettledBefore old i → AreSettledBefore new i
 
 pub recut_facts : (old : List Region) (i : ℕ) (prefix : List Bool) (new : List Region) → IsWellPlaced old → i < length old → is_thin (region_at old i) ≡ true
     → ((k : ℕ) → k < length old → length (items_at old k) ≤ 24) → (recut : IsRecut old i prefix new) → 24 < length (keys_at old i ++ keys_at old recut.merged.parent)
-    → (base : List Bool) → IsFair (keys_at old i ++ keys_at old recut.merged.parent) base prefix → Recut old new
+    → (base : List Bool) → IsFair (keys_at old i ++ keys_at old recut.merged.parent) base prefix → Recut old i new
 recut_facts old i prefix new well h thin few recut many base fair =
     let middle : List Region = recut.middle in
     let p : ℕ = recut.merged.parent in
@@ -257,11 +267,26 @@ recut_facts old i prefix new well h thin few recut many base fair =
                       omega (arith, few other.0 other.1, ap (λ (x : Region). length x.items) n.2, ap length (items_other middle p n.0 aside d), ap length other.2)
                 ]
           ]);
+      within = omega (arith, ap length cut.same, length-insert rest cut.place r fits, with_items_length middle p aside, m.long);
+      ahead = λ settled k l.
+          let front : (j : ℕ) → j < i → is_thin (region_at rest j) ≡ true → ⊥ = λ j l' t.
+          elim (cases_eq j p) [
+            | inl e ↦ full_not_thin q aside_many (subst (λ x. is_thin x ≡ true) (ap (region_at rest) e ∙ region_at_same middle p aside m.within) t)
+            | inr d ↦ both_ways (is_thin (region_at old j)) (settled j l') (m.ahead j l' (subst (λ x. is_thin x ≡ true) (region_at_other middle p j aside d) t))
+          ] in
+          false_from_ne_true (is_thin (region_at new k))
+          (λ t.
+          let at : region_at new k ≡ region_at (insert rest cut.place r) k = ap (λ rs. region_at rs k) cut.same in
+          elim (in_insert rest cut.place r empty_region k fits) [
+            | in_front a s ↦ front k l (subst (λ x. is_thin x ≡ true) (at ∙ s) t)
+            | itself a s ↦ full_not_thin r low_many (subst (λ x. is_thin x ≡ true) (at ∙ s) t)
+            | behind j g a s ↦ front j (omega arith) (subst (λ x. is_thin x ≡ true) (at ∙ s) t)
+          ]);
     }
 
 -- what is known where the items find place in the parent
 pub goes_facts : (old : List Region) (i : ℕ) (new : List Region) → IsWellPlaced old → i < length old → is_thin (region_at old i) ≡ true
-    → ((k : ℕ) → k < length old → length (items_at old k) ≤ 24) → (merged : IsMerged old i new) → length (keys_at old i ++ keys_at old merged.parent) ≤ 24 → Recut old new
+    → ((k : ℕ) → k < length old → length (items_at old k) ≤ 24) → (merged : IsMerged old i new) → length (keys_at old i ++ keys_at old merged.parent) ≤ 24 → Recut old i new
 goes_facts old i new well h thin few merged little =
     let p : ℕ = merged.parent in
     let m : Merged old i new merged = merged_facts old i new well h thin merged in
@@ -278,4 +303,6 @@ goes_facts old i new well h thin few merged little =
             | inl e ↦ omega (arith, total, joined, keys, first, second, little, ap length m.there, ap (λ q. length (items_at new q)) e)
             | inr d ↦ let other = m.others k l d in omega (arith, few other.0 other.1, ap length other.2)
           ];
+      within = omega (arith, m.long);
+      ahead = λ settled k l. false_from_ne_true (is_thin (region_at new k)) (λ t. both_ways (is_thin (region_at old k)) (settled k l) (m.ahead k l t));
     }

@@ -1,4 +1,4 @@
--- What an item that comes does to a file.
+-- What an item that comes does to a file. The code looks for the item's key first, makes room for it in all prefixes, and keeps no list of all items.
 use Rattle.std.specs.Prelude.{ℕ, ◌<◌, ◌≤◌, ◌≡◌, ◌≢◌, IsTrue, Bool, List, length}
 use Rattle.std.specs.List.{All}
 use Rattle.ml_key.specs.ItemKeys.{item_key}

@@ -1,4 +1,5 @@
--- What an insert puts into a file: a committed item that isn't front, with place 0 and as change the number of inserts that added one before.
+-- What an insert puts into a file: a committed item that isn't front, with place 0 and as change the number of inserts that added one before. The code puts the
+-- item, and counts afterwards.
 use Rattle.std.specs.Prelude.{ℕ, ◌+◌, ◌≡◌, true, false, min}
 use Rattle.ml_key.specs.ItemKeys.{item_key}
 use Rattle.ml_region.specs.declared.item.Item.{Item}

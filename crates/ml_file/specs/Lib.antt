@@ -1,4 +1,5 @@
 pub mod PlainList
+pub mod ListSteps
 pub mod Files
 pub mod Marking
 pub mod Hits

@@ -3,12 +3,14 @@ ghost use Rattle.std.specs.Prelude.{◌≡◌, ℕ, ◌<◌, ◌≤◌, length, 
 ghost use Rattle.ml_file.specs.Adding.{HasGrown, IsPutAs, MayCome};
 ghost use Rattle.ml_file.specs.Files.{items_in};
 ghost use Rattle.ml_file.specs.PlainList.{IsWith};
+ghost use Rattle.ml_file.specs.Settled.{MakesNoneThin};
 ghost use Rattle.ml_region.specs.Regions.{IsApart, items_at};
 
 use crate::OutOfMemory;
 use crate::file::BangFile;
 use ml_region::{Directory, Item, Regions};
 use ml_split::split_for;
+use ml_term::Kind;
 
 /// How many items a region has at most between two calls.
 pub const MOST_ITEMS: usize = 24;
@@ -29,6 +31,7 @@ fn grow<D: Directory>(regions: &mut Regions<D>, item: Item) -> Result<(), OutOfM
     ensures grown { OnOk result (HasGrown regions.old.regions item regions.new.regions) }
     ensures more { OnOk result (IsWith (items_in regions.old.regions) item (items_in regions.new.regions)) }
     ensures few { OnOk result ((k : ℕ) → k < length regions.new.regions → length (items_at regions.new.regions k) ≤ 24) }
+    ensures thin { OnOk result (MakesNoneThin regions.old.regions regions.new.regions) }
     ensures err { OnErr result (regions.new.regions ≡ regions.old.regions) }
     ensures room { regions.new.room ≡ regions.old.room }
 {
@@ -45,11 +48,14 @@ fn grow<D: Directory>(regions: &mut Regions<D>, item: Item) -> Result<(), OutOfM
 }
 
 impl BangFile {
-    /// Puts an item into the file, if no item has its key. Where its region has 24 items, it is first split. After an error only the room of prefixes may
-    /// have grown.
+    /// Puts an item into the file, if no item has its key. Where its region has 24 items, it is first split. No region is made thin. The answer `Present`
+    /// comes for tuples alone, since a clause's number is its own, and then nothing changes. After an error only the room of prefixes may have grown.
     pub fn put(&mut self, item: Item) -> Result<Put, OutOfMemory>
         requires { MayCome self.old.decl self.old.regions item }
         ensures ok { IfOk result (λ put. IsPutAs put self.old.regions item self.new.regions) }
+        ensures clauses { self.old.decl.kind ≡ Kind.Clauses → IfOk result (λ put. put ≡ Put.Added) }
+        ensures present { IfOk result (λ put. put ≡ Put.Present → self.new ≡ self.old) }
+        ensures thin { MakesNoneThin self.old.regions self.new.regions }
         ensures err { OnErr result (self.new.regions ≡ self.old.regions) }
         ensures decl { self.new.decl ≡ self.old.decl }
         ensures added { self.new.added ≡ self.old.added }

@@ -2,7 +2,7 @@
 ghost use Rattle.std.specs.Prelude.{◌≡◌, ℕ, ◌<◌, ◌≤◌, true, false, length, MatchOption};
 ghost use Rattle.std.specs.List.{All};
 ghost use Rattle.ml_file.specs.Files.{items_in};
-ghost use Rattle.ml_file.specs.Settled.{AreSettled, HasSameItems, IsFirstThin, is_thin};
+ghost use Rattle.ml_file.specs.Settled.{AreSettled, AreSettledBefore, HasSameItems, IsFirstThin, IsSettledThrough, is_thin};
 ghost use Rattle.ml_region.specs.Regions.{items_at, region_at};
 ghost use Rattle.ml_region.specs.declared.item.Item.{Item};
 
@@ -21,11 +21,13 @@ fn is_thin<D: Directory>(regions: &Regions<D>, i: usize) -> bool
     regions.prefix(i).len() > 0 && regions.count(i) < FEWEST_ITEMS
 }
 
-/// The first thin region in the order of prefixes, if there is one.
-fn first_thin<D: Directory>(regions: &Regions<D>) -> Option<usize>
+/// The first thin region in the order of prefixes, if there is one. No region in front of the place `from` is thin, so the search begins there.
+fn first_thin<D: Directory>(regions: &Regions<D>, from: usize) -> Option<usize>
+    requires from { from ≤ length regions.now.regions }
+    requires settled { AreSettledBefore regions.now.regions from }
     ensures { MatchOption result (AreSettled regions.now.regions) (λ i. IsFirstThin regions.now.regions i) }
 {
-    for i in 0..regions.len() {
+    for i in from..regions.len() {
         if is_thin(regions, i) {
             return Some(i);
         }
@@ -33,21 +35,25 @@ fn first_thin<D: Directory>(regions: &Regions<D>) -> Option<usize>
     None
 }
 
-/// Settles the first thin region until there is none. It takes no memory.
+/// Settles the first thin region until there is none. It takes no memory. A step makes no region in front thin, so the next one is searched from the
+/// place of the last one on.
 fn settle_regions<D: Directory>(regions: &mut Regions<D>)
     requires few { (k : ℕ) → k < length regions.old.regions → length (items_at regions.old.regions k) ≤ 24 }
     requires roomy { All (λ (x : Item). length x.key.bits ≤ regions.old.room) (items_in regions.old.regions) }
     ensures items { HasSameItems regions.old.regions regions.new.regions }
     ensures settled { AreSettled regions.new.regions }
+    ensures steps { IsSettledThrough regions.old.regions regions.new.regions }
     ensures few { (k : ℕ) → k < length regions.new.regions → length (items_at regions.new.regions k) ≤ 24 }
     ensures room { regions.new.room ≡ regions.old.room }
 {
+    let mut from = 0;
     'settling: loop {
         let _regions = regions.len();
-        let Some(i) = first_thin(regions) else {
+        let Some(i) = first_thin(regions, from) else {
             return;
         };
         settle(regions, i);
+        from = i;
     }
 }
 
@@ -57,6 +63,7 @@ impl BangFile {
     pub fn settle_all(&mut self)
         ensures items { HasSameItems self.old.regions self.new.regions }
         ensures settled { AreSettled self.new.regions }
+        ensures steps { IsSettledThrough self.old.regions self.new.regions }
         ensures others { self.new ≡ record self.old { regions = self.new.regions } }
     {
         settle_regions(&mut self.regions);

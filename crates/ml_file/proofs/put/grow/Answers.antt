@@ -5,6 +5,7 @@ use Rattle.ml_region.proofs.Owners.{one_owner}
 use Rattle.ml_file.specs.Adding.{has_place, splits_first}
 use Rattle.ml_file.proofs.Grown.{Comes, comes_after, cut_to, owner_has_place, put_few, put_items}
 use Rattle.ml_file.proofs.Coming.{apart_part}
+use Rattle.ml_file.proofs.NoneThin.{grown_none_thin}
 use Rattle.ml_file.proofs.put.grow.Goals as goal
 
 pub returns-then-count-lt-MOST_ITEMS-clause-grown : goal.returns-then-count-lt-MOST_ITEMS-clause-grown
@@ -20,6 +21,11 @@ returns-then-count-lt-MOST_ITEMS-clause-few g c =
     (λ k own.
     let same : k ≡ c.owner_of-owner.result = one_owner (region_prefixes c.args.regions.now.regions) c.args.item.key.bits k c.owner_of-owner.result c.len-regions.ensures.well_placed.rising own c.owner_of-owner.ensures in
     subst (λ i. length (items_at c.args.regions.now.regions i) < 24) (sym same) (omega (arith, c.if-count-lt-MOST_ITEMS.true, c.count.ensures)))
+
+pub returns-then-count-lt-MOST_ITEMS-clause-thin : goal.returns-then-count-lt-MOST_ITEMS-clause-thin
+returns-then-count-lt-MOST_ITEMS-clause-thin g c =
+    grown_none_thin c.args.regions.now.regions c.args.item c.place.new.self.regions
+    (has_place c.owner_of-owner.result c.owner_of-owner.ensures (omega (arith, c.if-count-lt-MOST_ITEMS.true, c.count.ensures)) c.place.ensures.regions)
 
 pub place-requires-2-clause-apart : goal.place-requires-2-clause-apart
 place-requires-2-clause-apart g c =
@@ -47,3 +53,8 @@ returns-clause-few g c =
     let comes : Comes c.args.regions.now.regions c.args.item c.split_for.new.regions.regions c.place-2.new.self.regions =
     comes_after c.args.regions.now.regions c.owner_of-owner.result c.args.item c.split_for.new.regions.regions c.place-2.new.self.regions c.len-regions.ensures.well_placed (omega (arith, c.owner_of-owner.ensures.within, length-map c.args.regions.now.regions (λ (r : Region). r.prefix))) c.owner_of-owner.ensures (omega (arith, c.if-count-lt-MOST_ITEMS.false, c.count.ensures)) c.requires.few c.in_ok-split_for.ensures.ok c.place-2.ensures.regions in
     comes.few
+
+pub returns-clause-thin : goal.returns-clause-thin
+returns-clause-thin g c =
+    grown_none_thin c.args.regions.now.regions c.args.item c.place-2.new.self.regions
+    (splits_first c.owner_of-owner.result c.split_for.new.regions.regions c.owner_of-owner.ensures (omega (arith, c.if-count-lt-MOST_ITEMS.false, c.count.ensures)) c.in_ok-split_for.ensures.ok c.place-2.ensures.regions)

@@ -7,6 +7,7 @@ use Rattle.ml_term.specs.Seen.{seen}
 use Rattle.ml_file.specs.Adding.{IsPutAs}
 use Rattle.ml_file.specs.Files.{File}
 use Rattle.ml_file.specs.Inserting.{counted}
+use Rattle.ml_file.specs.Settled.{MakesNoneThin}
 use Rattle.ml_file.proofs.Keyable.{IsKeyable, keyable}
 use Rattle.ml_file.proofs.file.BangFile.insert.Goals as goal
 
@@ -39,3 +40,11 @@ returns-clause-ok c =
       done = subst (λ rs. IsPutAs c.in_ok-put.put c.args.self.now.regions c.inserted_item-item.result rs) (sym (ap (λ (f : File). f.regions) c.note.ensures)) c.in_ok-put.ensures.ok;
       added = ap (λ (f : File). f.added) c.note.ensures ∙ ap (counted c.in_ok-put.put) c.in_ok-put.ensures.added;
     }
+
+pub returns-clause-present : goal.returns-clause-present
+returns-clause-present c e =
+    let middle : File = c.put.new.self in
+    c.note.ensures ∙ ap (λ p. record middle { added = counted p middle.added }) e ∙ c.in_ok-put.ensures.present e
+
+pub returns-clause-thin : goal.returns-clause-thin
+returns-clause-thin c = subst (MakesNoneThin c.args.self.now.regions) (sym (ap (λ (f : File). f.regions) c.note.ensures)) c.put.ensures.thin

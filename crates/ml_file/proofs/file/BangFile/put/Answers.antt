@@ -3,8 +3,10 @@ use Rattle.ml_region.specs.Regions.{IsApart}
 use Rattle.ml_file.specs.Adding.{HasGrown, IsAdded, IsPresent, MayCome}
 use Rattle.ml_file.specs.Files.{File, IsAbsent, IsFile, items_in}
 use Rattle.ml_file.specs.PlainList.{IsWith}
+use Rattle.ml_file.specs.Settled.{MakesNoneThin}
 use Rattle.ml_file.proofs.Held.{absent_from, held_from}
-use Rattle.ml_file.proofs.Coming.{apart_new, file_more, file_roomier}
+use Rattle.ml_file.proofs.Coming.{apart_new, clause_absent, file_more, file_roomier}
+use Rattle.ml_file.proofs.NoneThin.{same_none_thin}
 use Rattle.ml_file.proofs.file.BangFile.put.Goals as goal
 
 pub returns-in-Some-clause-ok : goal.returns-in-Some-clause-ok
@@ -43,3 +45,26 @@ returns-clause-ok c =
     let absent : IsAbsent c.self.inside.regions.regions c.args.item.key.bits = absent_from c.self.inside.regions.regions c.args.item.key.bits c.in_default.ensures in
     let here : IsAdded c.self.inside.regions.regions c.args.item c.grow.new.regions.regions = record { absent = absent; more = with_item; grown = grown } in
     subst (λ rs. IsAdded rs c.args.item c.grow.new.regions.regions) (ap (λ (f : File). f.regions) c.self.view_is) here
+
+pub returns-in-Some-clause-clauses : goal.returns-in-Some-clause-clauses
+returns-in-Some-clause-clauses c kind =
+    absurd (clause_absent c.self.inside.decl c.self.inside.regions.regions c.self.inside.regions.room c.args.item c.in-Some._held.now c.self.invariant
+    (subst (λ (f : File). MayCome f.decl f.regions c.args.item) (sym c.self.view_is) c.requires) (omega arith)
+    (held_from c.self.inside.regions.regions c.args.item.key.bits c.in-Some._held.now c.in-Some.ensures) (ap (λ (f : File). f.decl.kind) c.self.view_is ∙ kind))
+
+pub returns-in-Some-clause-thin : goal.returns-in-Some-clause-thin
+returns-in-Some-clause-thin c = same_none_thin c.args.self.now.regions c.args.self.now.regions refl
+
+pub returns-in_err-make_room-clause-thin : goal.returns-in_err-make_room-clause-thin
+returns-in_err-make_room-clause-thin c =
+    same_none_thin c.args.self.now.regions c.make_room.new.self.regions (c.in_err-make_room.ensures.regions ∙ ap (λ (f : File). f.regions) c.self.view_is)
+
+pub returns-in_err-grow-clause-thin : goal.returns-in_err-grow-clause-thin
+returns-in_err-grow-clause-thin c =
+    same_none_thin c.args.self.now.regions c.grow.new.regions.regions (c.in_err-grow.ensures.err ∙ c.in_ok-make_room.ensures.regions ∙ ap (λ (f : File). f.regions) c.self.view_is)
+
+pub returns-clause-thin : goal.returns-clause-thin
+returns-clause-thin c =
+    let none : MakesNoneThin c.self.inside.regions.regions c.grow.new.regions.regions =
+    subst (λ rs. MakesNoneThin rs c.grow.new.regions.regions) c.in_ok-make_room.ensures.regions c.in_ok-grow.ensures.thin in
+    subst (λ rs. MakesNoneThin rs c.grow.new.regions.regions) (ap (λ (f : File). f.regions) c.self.view_is) none

@@ -1,11 +1,10 @@
 -- The items of a file where an item comes and where a region is cut.
-use Rattle.std.proofs.Common.{◌≡◌, ◌⊎◌, inl, inr, ℕ, ◌+◌, ◌<◌, ◌≤◌, Bool, List, [], ◌∷◌, ◌++◌, length, map, not, refl, sym, ap, ◌∙◌, subst, arith, length-append, true, false, cond}
+use Rattle.std.proofs.Common.{◌≡◌, ◌⊎◌, inl, inr, ℕ, ◌+◌, ◌<◌, ◌≤◌, Bool, List, [], ◌∷◌, ◌++◌, length, not, refl, sym, ap, ◌∙◌, subst, arith, length-append}
 use Rattle.std.specs.Prelude.{Contains}
 use Rattle.std.specs.List.{filter, insert}
 use Rattle.std.proofs.lemmas.Bool.{cases_eq, cases_lt}
 use Rattle.std.proofs.lemmas.List.{length-map}
 use Rattle.std.proofs.lemmas.List.Edits.{length-insert}
-use Rattle.std.proofs.lemmas.List.Filters.{length-filter_both}
 use Rattle.std.proofs.lemmas.List.Elements.{Contains-append_left, Contains-append_right, Contains-append_cases, filter-append}
 use Rattle.std.proofs.lemmas.List.Sorted.{Contains-permutation, IsPermutation-filter_both, IsPermutation-insert, IsPermutation-sym}
 use Rattle.ml_bits.specs.BitList.{Begins}
@@ -20,6 +19,7 @@ use Rattle.ml_region.proofs.Placed.{with_items_length, with_items_prefixes, item
 use Rattle.ml_split.specs.RegionSplits.{IsSplitFor}
 use Rattle.ml_split.specs.Splitting.{count_under}
 use Rattle.ml_split.proofs.RegionKeys.{prefix_is, rising_once}
+use Rattle.ml_split.proofs.RegionSizes.{below_count, both_sizes, located, place_within, split_for_few}
 use Rattle.ml_split.proofs.Walking.{count_within}
 use Rattle.ml_file.specs.Files.{items_in}
 use Rattle.ml_file.specs.PlainList.{IsWith}
@@ -86,10 +86,6 @@ from_both p items x there =
     Contains-permutation (items_below p items ++ items_beside p items) items x
     (IsPermutation-sym items (items_below p items ++ items_beside p items)
     (IsPermutation-filter_both (λ (y : Item). begins p y.key.bits) (λ (y : Item). not (begins p y.key.bits)) (λ _. refl) items)) there
-
-pub place_within : (old : List Region) (i : ℕ) (p : List Bool) (new : List Region) (cut : IsCut old i p new) (items : List Item) → cut.place ≤ length (with_items old i items)
-place_within old i p new cut items =
-    omega (arith, cut.fits.within, with_items_length old i items, length-map old (λ (r : Region). r.prefix))
 
 -- a cut keeps all items
 pub cut_to : (old : List Region) (i : ℕ) (p : List Bool) (new : List Region) → i < length old → IsCut old i p new → (x : Item) → Contains (items_in new) x → Contains (items_in old) x
@@ -177,17 +173,6 @@ put_few old item new put few room k l =
 
 -- ---- where a region is cut for a key
 
--- what stands at a place where one more region was put
-pub located : (regions : List Region) (c : ℕ) (r : Region) (k : ℕ) → c ≤ length regions → k < length (insert regions c r)
-    → (region_at (insert regions c r) k ≡ r) ⊎ ((m : ℕ) × (m < length regions) × (region_at (insert regions c r) k ≡ region_at regions m))
-located regions c r k h l =
-    let long : length (insert regions c r) ≡ length regions + 1 = length-insert regions c r h in
-    elim (in_insert regions c r empty_region k h) [
-      | in_front m s ↦ inr (k, omega arith, s)
-      | itself m s ↦ inl s
-      | behind j e m s ↦ inr (j, omega arith, s)
-    ]
-
 -- every region that was there still is
 still_there : (regions : List Region) (c : ℕ) (r : Region) (k : ℕ) → c ≤ length regions → k < length regions
     → (t : ℕ) × (t < length (insert regions c r)) × (region_at (insert regions c r) t ≡ region_at regions k)
@@ -209,41 +194,6 @@ still_there regions c r k h l =
                 (k + 1, omega arith, s ∙ ap (region_at regions) same)
           ]
     ]
-
-pub both_sizes : (p : List Bool) (items : List Item) → length (items_below p items) + length (items_beside p items) ≡ length items
-both_sizes p items = length-filter_both (λ (y : Item). begins p y.key.bits) (λ (y : Item). not (begins p y.key.bits)) (λ _. refl) items
-
--- a cut region has no more items than before, and so the new one
-pub cut_few : (old : List Region) (i : ℕ) (p : List Bool) (new : List Region) → i < length old → IsCut old i p new → ((k : ℕ) → k < length old → length (items_at old k) ≤ 24)
-    → (k : ℕ) → k < length new → length (items_at new k) ≤ 24
-cut_few old i p new h cut few k l =
-    let items : List Item = items_at old i in
-    let beside : List Item = items_beside p items in
-    let rest : List Region = with_items old i beside in
-    let r : Region = record { prefix = p; items = items_below p items } in
-    let fits : cut.place ≤ length rest = place_within old i p new cut beside in
-    let sizes = both_sizes p items in
-    subst (λ rs. length (items_at rs k) ≤ 24) (sym cut.same)
-    (elim (located rest cut.place r k fits (omega (arith, l, ap length cut.same))) [
-      | inl s ↦ omega (arith, sizes, few i h, ap (λ (q : Region). length q.items) s)
-      | inr m ↦
-          elim (cases_eq m.0 i) [
-            | inl e ↦
-                let at : items_at rest m.0 ≡ beside = ap (items_at rest) e ∙ items_same old i beside h in
-                omega (arith, sizes, few i h, ap (λ (q : Region). length q.items) m.2, ap length at)
-            | inr d ↦ omega (arith, few m.0 (omega (arith, m.1, with_items_length old i beside)), ap (λ (q : Region). length q.items) m.2, ap length (items_other old i m.0 beside d))
-          ]
-    ])
-
-same_sizes : {X Y : Type 0} (b : Bool) (x : X) (y : Y) (xs : List X) (ys : List Y) → length xs ≡ length ys → length (cond b (x ∷ xs) xs) ≡ length (cond b (y ∷ ys) ys)
-same_sizes true x y xs ys e = omega arith
-same_sizes false x y xs ys e = e
-
--- as many items as keys begin with a prefix
-pub below_count : (p : List Bool) (items : List Item) → count_under p (map (λ (y : Item). y.key.bits) items) ≡ length (items_below p items)
-below_count p [] = refl
-below_count p (x ∷ items) =
-    same_sizes (begins p x.key.bits) x.key.bits x (filter (begins p) (map (λ (y : Item). y.key.bits) items)) (items_below p items) (below_count p items)
 
 -- the region that owns the key after a region of 24 items was cut for it has under 24
 pub owner_has_place : (old : List Region) (i : ℕ) (key : List Bool) (middle : List Region) → IsWellPlaced old → i < length old → IsOwner (region_prefixes old) key i
@@ -317,5 +267,5 @@ comes_after old i item middle new well h owner full few split put =
         λ there. elim ((put_items middle item new put x).0 there) [ inl was ↦ inl (to x was) | inr e ↦ inr e ],
         λ either. (put_items middle item new put x).1 (elim either [ inl was ↦ inl (from x was) | inr e ↦ inr e ]),
       );
-      few = put_few middle item new put (cut_few old i split.prefix middle h split.cut few) (owner_has_place old i item.key.bits middle well h owner (omega arith) split);
+      few = put_few middle item new put (split_for_few old i item.key.bits middle well h split (λ k l _. few k l)) (owner_has_place old i item.key.bits middle well h owner (omega arith) split);
     }

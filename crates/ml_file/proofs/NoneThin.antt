@@ -15,7 +15,8 @@ use Rattle.ml_split.specs.Splitting.{count_under}
 use Rattle.ml_split.proofs.Walking.{count_within}
 use Rattle.ml_file.specs.Adding.{HasGrown, has_place, splits_first}
 use Rattle.ml_file.specs.Settled.{is_thin, AreSettled, HasThin, MakesNoneThin}
-use Rattle.ml_file.proofs.Grown.{below_count, both_sizes, located, place_within, put_within}
+use Rattle.ml_split.proofs.RegionSizes.{below_count, both_sizes, located, place_within}
+use Rattle.ml_file.proofs.Grown.{put_within}
 
 -- ---- a region by itself
 

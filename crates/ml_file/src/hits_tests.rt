@@ -1,6 +1,7 @@
 //! Tuples that patterns meet, and one that is marked.
 use crate::test_terms::{compound_2, declared, insert_tuple, is_pattern, tuple_key};
 use crate::{BangFile, OutOfMemory, Put};
+use ml_bits::Bits;
 use ml_region::Id;
 use ml_term::{Kind, Term};
 use std::alloc::{AllocError, Global};
@@ -33,12 +34,14 @@ fn firsts(
 ) -> Result<Vec<i64>, OutOfMemory> {
     let head = pair(rt, alloc, a, b)?;
     assert!(rt; is_pattern(&head, file.decl()));
+    let hits = file.hits(&head)?;
+    let matches = file.matches(&head)?;
     let mut found = Vec::new(alloc);
-    for item in file.hits(&head)?.iter() {
+    for item in hits.iter() {
         found.push(first(&item.term).unwrap_or(-1))?;
     }
     let mut copied = Vec::new(alloc);
-    for t in file.matches(&head)?.iter() {
+    for t in matches.iter() {
         copied.push(first(t).unwrap_or(-1))?;
     }
     assert!(rt; found.as_slice() == copied.as_slice());
@@ -82,6 +85,15 @@ fn tuples_are_found_in_key_order(rt: HostRuntime) -> Result<(), Fail> {
     Ok(())
 }
 
+/// Marks the item that has a key as one that isn't committed, and says whether there is one.
+fn marked(file: &mut BangFile, key: &Bits, id: Id) -> bool {
+    let Some(_item) = file.at(key) else {
+        return false;
+    };
+    file.mark(key, false, id);
+    true
+}
+
 /// The item that has a key is marked, and no other one.
 #[test]
 fn one_tuple_is_marked(rt: HostRuntime) -> Result<(), Fail> {
@@ -89,12 +101,11 @@ fn one_tuple_is_marked(rt: HostRuntime) -> Result<(), Fail> {
     let mut file = thirty(&rt, alloc)?;
     let t = pair(&rt, alloc, Term::Int(4), Term::Int(1))?;
     let key = tuple_key(&rt, alloc, &file, &t)?;
-    assert!(rt; file.at(&key).is_some());
     let id = Id {
         place: 7,
         change: 2,
     };
-    file.mark(&key, false, id);
+    assert!(rt; marked(&mut file, &key, id));
     let head = pair(&rt, alloc, Term::Var(0), Term::Var(1))?;
     assert!(rt; is_pattern(&head, file.decl()));
     let hits = file.hits(&head)?;

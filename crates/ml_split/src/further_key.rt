@@ -47,8 +47,7 @@ fn item_for<D: Directory>(regions: &Regions<D>, i: usize, key: &Bits) -> SplitPl
 {
     let _regions = regions.len();
     let keys = RegionKeys {
-        regions,
-        region: i,
+        items: regions.items(i),
         further: Some(key),
     };
     let place = split_place(&keys, regions.prefix(i));
@@ -70,8 +69,8 @@ fn item_below<D: Directory>(regions: &Regions<D>, i: usize, key: &Bits, bits: us
     ensures within { bits ≤ length (bits_at (keys_at regions.now.regions i) result) }
     ensures begins { take bits (bits_at (keys_at regions.now.regions i) result) ≡ take bits key.now.bits }
 {
-    for j in 0..regions.count(i) {
-        if key.common_len(&regions.item(i, j).key) >= bits {
+    for (j, item) in regions.items(i).iter().enumerate() {
+        if key.common_len(&item.key) >= bits {
             return j;
         }
     }

@@ -1,7 +1,9 @@
 //! The keys of what is to be split, by their numbers, however they are kept.
 ghost use Rattle.std.specs.Prelude.{◌≡◌, ◌<◌, Bool, [], List, length, slice_index_or};
+ghost use Rattle.ml_region.specs.Regions.{keys_of};
 
 use ml_bits::Bits;
+use ml_region::Item;
 
 /// A list of keys that can be read at each place.
 pub(crate) trait Keys {
@@ -16,4 +18,12 @@ pub(crate) trait Keys {
     fn key(&self, i: usize) -> &Bits
         requires { i < length (keys self.now) }
         ensures { result.now.bits ≡ slice_index_or (keys self.now) i [] };
+}
+
+/// The key of the item at place `i`, from 0.
+pub(crate) fn key_at(items: &[Item], i: usize) -> &Bits
+    requires { i < length items.now }
+    ensures { result.now.bits ≡ slice_index_or (keys_of items.now) i [] }
+{
+    &items[i].key
 }

@@ -1,38 +1,33 @@
 //! The keys of two regions that meet, by their numbers.
-ghost use Rattle.std.specs.Prelude.{◌<◌, ◌≤◌, length};
-ghost use Rattle.ml_region.specs.Regions.{items_at};
+ghost use Rattle.std.specs.Prelude.{◌≤◌, length};
 
-use crate::Keys;
+use crate::keys::{Keys, key_at};
 use ml_bits::Bits;
-use ml_region::{Directory, Regions};
+use ml_region::Item;
 
-/// The keys of a region, and then those of its parent.
+/// The keys of the items of a region, and then those of its parent.
 #[derive(Drop)]
-pub(crate) struct MeetingKeys<'a, D: Directory> {
-    pub(crate) regions: &'a Regions<D>,
-    pub(crate) region: usize,
-    pub(crate) parent: usize,
-    pub(crate) ghost region_within: { region < length regions.now.regions },
-    pub(crate) ghost parent_within: { parent < length regions.now.regions },
-    pub(crate) ghost region_few: { length (items_at regions.now.regions region) ≤ 31 },
-    pub(crate) ghost parent_few: { length (items_at regions.now.regions parent) ≤ 31 },
+pub(crate) struct MeetingKeys<'a> {
+    pub(crate) own: &'a [Item],
+    pub(crate) above: &'a [Item],
+    pub(crate) ghost own_few: { length own.now ≤ 31 },
+    pub(crate) ghost above_few: { length above.now ≤ 31 },
 }
 
-impl<D: Directory> Keys for MeetingKeys<'_, D> {
+impl Keys for MeetingKeys<'_> {
     ghost use Rattle.std.specs.Prelude.{◌++◌};
-    ghost use Rattle.ml_region.specs.Regions.{keys_at};
+    ghost use Rattle.ml_region.specs.Regions.{keys_of};
 
-    ghost keys = { λ k. keys_at k.regions.now.regions k.region ++ keys_at k.regions.now.regions k.parent };
+    ghost keys = { λ k. keys_of k.own.now ++ keys_of k.above.now };
 
     fn len(&self) -> usize {
-        self.regions.count(self.region) + self.regions.count(self.parent)
+        self.own.len() + self.above.len()
     }
 
     fn key(&self, i: usize) -> &Bits {
-        let own = self.regions.count(self.region);
-        if i < own {
-            return &self.regions.item(self.region, i).key;
+        if i < self.own.len() {
+            return key_at(self.own, i);
         }
-        &self.regions.item(self.parent, i - own).key
+        key_at(self.above, i - self.own.len())
     }
 }

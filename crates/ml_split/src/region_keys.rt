@@ -1,35 +1,32 @@
 //! The keys of a region, by their numbers.
-ghost use Rattle.std.specs.Prelude.{◌<◌, ◌≤◌, length};
-ghost use Rattle.ml_region.specs.Regions.{items_at};
+ghost use Rattle.std.specs.Prelude.{◌≤◌, length};
 
-use crate::Keys;
+use crate::keys::{Keys, key_at};
 use ml_bits::Bits;
-use ml_region::{Directory, Regions};
+use ml_region::Item;
 
-/// The keys of a region, and then a further one if it is given.
+/// The keys of the items of a region, and then a further one if it is given.
 #[derive(Drop)]
-pub(crate) struct RegionKeys<'a, D: Directory> {
-    pub(crate) regions: &'a Regions<D>,
-    pub(crate) region: usize,
+pub(crate) struct RegionKeys<'a> {
+    pub(crate) items: &'a [Item],
     pub(crate) further: Option<&'a Bits>,
-    pub(crate) ghost within: { region < length regions.now.regions },
-    pub(crate) ghost few: { length (items_at regions.now.regions region) ≤ 31 },
+    pub(crate) ghost few: { length items.now ≤ 31 },
 }
 
-impl<D: Directory> Keys for RegionKeys<'_, D> {
+impl Keys for RegionKeys<'_> {
     ghost use Rattle.std.specs.Option.{option_copied};
-    ghost use Rattle.ml_region.specs.Regions.{keys_at};
+    ghost use Rattle.ml_region.specs.Regions.{keys_of};
     ghost use Rattle.ml_split.specs.RegionSplits.{keys_with};
 
-    ghost keys = { λ k. keys_with (keys_at k.regions.now.regions k.region) (option_copied k.further) };
+    ghost keys = { λ k. keys_with (keys_of k.items.now) (option_copied k.further) };
 
     fn len(&self) -> usize {
-        self.regions.count(self.region) + usize::from(self.further.is_some())
+        self.items.len() + usize::from(self.further.is_some())
     }
 
     fn key(&self, i: usize) -> &Bits {
-        if i < self.regions.count(self.region) {
-            return &self.regions.item(self.region, i).key;
+        if i < self.items.len() {
+            return key_at(self.items, i);
         }
         match self.further {
             Some(key) => key,

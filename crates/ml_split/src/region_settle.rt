@@ -66,9 +66,8 @@ fn meeting_place<D: Directory>(regions: &Regions<D>, i: usize, parent: usize) ->
 {
     let _regions = regions.len();
     let keys = MeetingKeys {
-        regions,
-        region: i,
-        parent,
+        own: regions.items(i),
+        above: regions.items(parent),
     };
     let place = split_place(&keys, regions.prefix(parent));
     let own = regions.count(i);

@@ -29,8 +29,7 @@ pub fn split_prefix<D: Directory>(
 {
     let _regions = regions.len();
     let keys = RegionKeys {
-        regions,
-        region: i,
+        items: regions.items(i),
         further: extra,
     };
     let place = split_place(&keys, regions.prefix(i));
@@ -69,8 +68,7 @@ fn place_in<D: Directory>(regions: &Regions<D>, i: usize) -> SplitPlace
 {
     let _regions = regions.len();
     let keys = RegionKeys {
-        regions,
-        region: i,
+        items: regions.items(i),
         further: None,
     };
     split_place(&keys, regions.prefix(i))

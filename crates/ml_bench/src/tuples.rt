@@ -2,7 +2,7 @@
 ghost use Rattle.std.specs.Prelude.{◌≡◌, ◌≤◌, IfOk, IsTrue};
 ghost use Rattle.ml_bench.specs.Tuples.{arity_of, term_of};
 ghost use Rattle.ml_term.specs.Seen.{seen};
-ghost use Rattle.ml_term.specs.Valid.{is_in_range, is_valid};
+ghost use Rattle.ml_term.specs.Valid.{is_in_range};
 
 use ml_term::{Args, Name, Term, is_in_range};
 use std::alloc::{AllocError, Global};

@@ -1,5 +1,5 @@
 //! A file is settled: thin regions go into their parents until there is none.
-ghost use Rattle.std.specs.Prelude.{◌≡◌, ℕ, ◌<◌, ◌≤◌, true, false, length, MatchOption};
+ghost use Rattle.std.specs.Prelude.{◌≡◌, ℕ, ◌<◌, ◌≤◌, length, MatchOption};
 ghost use Rattle.std.specs.List.{All};
 ghost use Rattle.ml_file.specs.Files.{items_in};
 ghost use Rattle.ml_file.specs.Settled.{AreSettled, AreSettledBefore, HasSameItems, IsFirstThin, IsSettledThrough, is_thin};

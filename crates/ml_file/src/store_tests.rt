@@ -1,5 +1,5 @@
 //! Stores from items.
-ghost use Rattle.std.specs.Prelude.{◌≡◌, IfOk, IsTrue};
+ghost use Rattle.std.specs.Prelude.{IfOk, IsTrue};
 ghost use Rattle.ml_search.specs.Db.{is_allowed};
 ghost use Rattle.ml_search.specs.ItemsSeen.{items_seen};
 ghost use Rattle.ml_search.specs.Loading.{are_items};

@@ -1,5 +1,5 @@
 //! Splits of small lists of keys by the code.
-ghost use Rattle.std.specs.Prelude.{◌≡◌, ℕ, ◌<◌, IsTrue, length};
+ghost use Rattle.std.specs.Prelude.{ℕ, ◌<◌, IsTrue, length};
 ghost use Rattle.std.specs.List.{All};
 ghost use Rattle.ml_bits.specs.BitList.{Begins};
 ghost use Rattle.ml_region.specs.Prefixes.{IsOwner};

@@ -1,6 +1,7 @@
-//! The program: it runs `serial` over the files of the folder that it is started in and over standard output.
-//! It stands on ml_run, which does all of the work, and on ml_outside for the real shelf and sink. No layer stands above it.
-//! Where the run didn't end well, its line goes to standard error, and the program ends with the status's number.
+//! The program: it runs `serial` over the files of the folder that it is started in and over
+//! standard output. It stands on ml_run, which does all of the work, and on ml_outside for the real
+//! shelf and sink. No layer stands above it. Where the run didn't end well, its line goes to
+//! standard error, and the program ends with the status's number.
 #![tactic(auto)]
 
 ghost use Rattle.std.specs.Prelude.{length, IfErr};

@@ -1,9 +1,10 @@
 //! Tuples are inserted into a file, and each is found again.
-use crate::fill::{filled, rounds_of};
+use crate::fill::{fill_relation, rounds_of};
 use crate::tuples::{Width, row_at, values_of};
 use std::alloc::{AllocError, Global};
 
-/// Fills files of so many tuples, one after another, and says whether each tuple is found by its key.
+/// Fills files of so many tuples, one after another, and says whether each tuple is found by its
+/// key.
 pub fn insert(alloc: Global, width: Width, count: u32) -> Result<bool, AllocError> {
     for _ in 0..rounds_of(count) {
         if !are_found(alloc, width, count)? {
@@ -13,10 +14,10 @@ pub fn insert(alloc: Global, width: Width, count: u32) -> Result<bool, AllocErro
     Ok(true)
 }
 
-/// Inserts so many tuples, and says whether each is found by its key.
+// Inserts so many tuples, and says whether each is found by its key.
 fn are_found(alloc: Global, width: Width, count: u32) -> Result<bool, AllocError> {
     let values = values_of(count);
-    let Some(relation) = filled(alloc, width, count)? else {
+    let Some(relation) = fill_relation(alloc, width, count)? else {
         return Ok(false);
     };
     for n in 0..count {

@@ -6,6 +6,9 @@ use ml_heap::{Heap, Ref};
 use ml_term::Name;
 use std::alloc::{AllocError, Global};
 
+/// How many elements are worked on in all.
+pub const ELEMENTS_IN_ALL: u32 = 1000000;
+
 /// What the elements of a list are.
 #[derive(Clone, Copy, PartialEq, Eq)]
 pub enum Elements {
@@ -35,7 +38,7 @@ pub fn list_of(
     Ok(list)
 }
 
-/// One element.
+// One element.
 fn element(heap: &mut Heap, elements: Elements) -> Result<Ref, AllocError>
     ensures inside { IfOk result (λ r. r < cell_count heap.new) }
     ensures more { OnOk result (cell_count heap.old ≤ cell_count heap.new) }

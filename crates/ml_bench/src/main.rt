@@ -1,5 +1,6 @@
-//! Works that are timed from outside. The first word names the work and the second its size; each work is done as often as makes it long enough to be
-//! timed, and stands in a file of its own. It stands on the crates whose work it does. No layer stands above it.
+//! Works that are timed from outside. The first word names the work and the second its size; each
+//! work is done as often as makes it long enough to be timed, and stands in a file of its own. It
+//! stands on the crates whose work it does. No layer stands above it.
 #![tactic(auto)]
 
 mod append;
@@ -24,7 +25,7 @@ use ground::ground;
 use insert::insert;
 use matches::matches;
 use read::read;
-use regions::{COUNTED, Looked, regions};
+use regions::{COUNTED, RegionsLookedAt, regions};
 use relation::Given;
 use rules::rules;
 use std::alloc::{AllocError, Global};
@@ -48,7 +49,7 @@ fn main(rt: HostRuntime) -> io::Result<ExitCode> {
         let looked = regions(rt.alloc(), width, given, count);
         return tell_regions(&rt, work.as_str(), count, looked);
     }
-    match done(rt.alloc(), work.as_str(), count) {
+    match run_work(rt.alloc(), work.as_str(), count) {
         Ok(Some(true)) => println!(rt; "{work} {count}: done")?,
         Ok(Some(false)) => println!(rt; "{work} {count}: not as wanted")?,
         Ok(None) => return usage(&rt),
@@ -57,8 +58,8 @@ fn main(rt: HostRuntime) -> io::Result<ExitCode> {
     Ok(ExitCode::SUCCESS)
 }
 
-/// Does a work, and says whether all went as wanted. None is named otherwise.
-fn done(alloc: Global, work: &str, count: u32) -> Result<Option<bool>, AllocError> {
+// Does a work, and says whether all went as wanted. None is named otherwise.
+fn run_work(alloc: Global, work: &str, count: u32) -> Result<Option<bool>, AllocError> {
     if let Some((width, given)) = question_of(work, "match") {
         return Ok(Some(matches(alloc, width, given, count)?));
     }
@@ -77,7 +78,8 @@ fn done(alloc: Global, work: &str, count: u32) -> Result<Option<bool>, AllocErro
     }
 }
 
-/// The tuples that a word of this kind names behind its beginning: how many arguments they have, and which of them are given.
+// The tuples that a word of this kind names behind its beginning: how many arguments they have, and
+// which of them are given.
 fn question_of(work: &str, kind: &str) -> Option<(Width, Given)> {
     match work.strip_prefix(kind)? {
         "2none" => Some((Width::Two, Given::Neither)),
@@ -92,15 +94,15 @@ fn question_of(work: &str, kind: &str) -> Option<(Width, Given)> {
     }
 }
 
-/// Tells how many regions matches look at.
+// Tells how many regions matches look at.
 fn tell_regions(
     rt: &HostRuntime,
     work: &str,
     count: u32,
-    looked: Result<Option<Looked>, AllocError>,
+    looked: Result<Option<RegionsLookedAt>, AllocError>,
 ) -> io::Result<ExitCode> {
     match looked {
-        Ok(Some(Looked { looked_at, all })) => {
+        Ok(Some(RegionsLookedAt { looked_at, all })) => {
             println!(rt; "{work} {count}: {COUNTED} matches look at {looked_at} of {all} regions")?;
         }
         Ok(None) => println!(rt; "{work} {count}: not as wanted")?,
@@ -109,7 +111,7 @@ fn tell_regions(
     Ok(ExitCode::SUCCESS)
 }
 
-/// Tells what the words may be.
+// Tells what the words may be.
 fn usage(rt: &HostRuntime) -> io::Result<ExitCode> {
     println!(rt; "ml_bench WORK N, where WORK is one of")?;
     println!(rt; "unify ground append copy read rules fill2 fill3 insert2 insert3")?;

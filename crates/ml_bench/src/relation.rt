@@ -27,18 +27,18 @@ pub enum Given {
 }
 
 impl Given {
-    /// Whether the first argument is given.
+    // Whether the first argument is given.
     fn has_first(self) -> bool {
         matches!(self, Given::First | Given::Both)
     }
 
-    /// Whether the second argument is given.
+    // Whether the second argument is given.
     fn has_second(self) -> bool {
         matches!(self, Given::Second | Given::Both)
     }
 }
 
-/// The term of an integer.
+// The term of an integer.
 fn number(value: i64) -> Term
     requires { IsTrue (is_in_range value) }
     ensures same { seen result ≡ integer value }
@@ -47,7 +47,7 @@ fn number(value: i64) -> Term
     Term::Int(value)
 }
 
-/// An integer where it is given, and else a variable.
+// An integer where it is given, and else a variable.
 fn argument(is_given: bool, value: i64, variable: u32) -> Term
     requires { IsTrue (is_in_range value) }
     ensures valid { IsTrue (is_valid (seen result)) }
@@ -85,26 +85,27 @@ impl Relation {
         self.file.len()
     }
 
-    /// The tuple of a row.
+    // The tuple of a row.
     fn tuple(&self, alloc: Global, row: &Row) -> Result<Term, AllocError>
         ensures { IfOk result (λ t. IsTrue (is_allowed self.now.file.decl (seen t))) }
     {
         let name = &self.file.decl().pred.name;
-        let _name = name.as_slice();
+        let _is_name = name.as_slice();
         let first = number(row.first);
         let second = number(row.second);
         let third = number(row.third);
         term_of(alloc, self.width, name, first, second, third)
     }
 
-    /// A term that asks for tuples with some of the arguments of a row.
+    // A term that asks for tuples with some of the arguments of a row.
     fn head(&self, alloc: Global, row: &Row, given: Given) -> Result<Term, AllocError>
-        ensures declared { IfOk result (λ t. IsTrue (is_of self.now.file.decl.pred.name self.now.file.decl.pred.arity (seen t))) }
+        ensures declared { IfOk result (λ t.
+            IsTrue (is_of self.now.file.decl.pred.name self.now.file.decl.pred.arity (seen t))) }
         ensures valid { IfOk result (λ t. IsTrue (is_valid (seen t))) }
         ensures small { IfOk result (λ t. nodes (seen t) ≤ 4096) }
     {
         let name = &self.file.decl().pred.name;
-        let _name = name.as_slice();
+        let _is_name = name.as_slice();
         let first = argument(given.has_first(), row.first, 0);
         let second = argument(given.has_second(), row.second, 1);
         let third = argument(false, row.third, 2);
@@ -130,7 +131,8 @@ impl Relation {
         Ok(self.file.matches(&head)?.len())
     }
 
-    /// How many regions may hold a tuple with the given arguments of a row. A match looks at these alone.
+    /// How many regions may hold a tuple with the given arguments of a row. A match looks at these
+    /// alone.
     pub fn regions_looked_at(
         &self,
         alloc: Global,

@@ -1,10 +1,10 @@
 //! A text of facts is read as rules of one relation. The time is to grow as the text.
-use crate::read::MOST_BYTES;
+use crate::read::MAX_TEXT_BYTES;
 use ml_reader::{ReadStop, read_rules};
 use std::alloc::{AllocError, Global};
 use std::fmt::Write;
 
-/// How many facts are read in all.
+// How many facts are read in all.
 const FACTS: u32 = 1000000;
 
 /// Reads rules with so many facts again and again, and says whether it always was a text of rules.
@@ -13,12 +13,12 @@ pub fn rules(alloc: Global, count: u32) -> Result<bool, AllocError> {
     let times = FACTS / count.max(1);
     let mut always = true;
     for _ in 0..times.max(1) {
-        always &= is_read(alloc, text.as_bytes())?;
+        always &= are_rules_read(alloc, text.as_bytes())?;
     }
     Ok(always)
 }
 
-/// The declaration of a relation, and so many tuples of it, each with a number of its own.
+// The declaration of a relation, and so many tuples of it, each with a number of its own.
 fn facts(alloc: Global, count: u32) -> Result<String, AllocError> {
     let mut text = String::new(alloc);
     text.push_str(":- relation(q/2).\n")?;
@@ -28,9 +28,9 @@ fn facts(alloc: Global, count: u32) -> Result<String, AllocError> {
     Ok(text)
 }
 
-/// Whether a text is one of rules.
-fn is_read(alloc: Global, text: &[u8]) -> Result<bool, AllocError> {
-    if text.len() > MOST_BYTES {
+// Whether a text is one of rules.
+fn are_rules_read(alloc: Global, text: &[u8]) -> Result<bool, AllocError> {
+    if text.len() > MAX_TEXT_BYTES {
         return Ok(false);
     }
     match read_rules(alloc, text) {

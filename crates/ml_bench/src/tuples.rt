@@ -10,7 +10,7 @@ use std::alloc::{AllocError, Global};
 /// How many tuples have one and the same first argument, and how many the same second one.
 pub const TUPLES_A_VALUE: u32 = 10;
 
-/// How far apart the rows stand that one match and the next ask for.
+// How far apart the rows stand that one match and the next ask for.
 const STEP: u32 = 7919;
 
 /// How many arguments the tuples have.
@@ -45,7 +45,7 @@ pub struct Row {
     pub ghost third_in_range: { IsTrue (is_in_range third) },
 }
 
-/// A number in a place of its own among all integers: different small numbers lie far apart.
+// A number in a place of its own among all integers: different small numbers lie far apart.
 fn spread(n: u32) -> i64
     ensures { IsTrue (is_in_range result) }
 {
@@ -86,7 +86,8 @@ pub fn term_of(
     second: Term,
     third: Term,
 ) -> Result<Term, AllocError>
-    ensures { IfOk result (λ t. seen t ≡ term_of width name.now (seen first) (seen second) (seen third)) }
+    ensures { IfOk result (λ t. seen t
+        ≡ term_of width name.now (seen first) (seen second) (seen third)) }
 {
     let args = match width {
         Width::Two => vec![in alloc; first, second]?,

@@ -6,10 +6,10 @@ use Rattle.std.proofs.lemmas.Bool.{cases_lt}
 use Rattle.std.proofs.lemmas.List.{length-take-le, get_or-take, take-take, take_all, ext_get_or}
 use Rattle.std.proofs.lemmas.Nat.{xor_lt}
 use Rattle.ml_bits.specs.BitList.{bits_of, Begins, IsCommonLength}
-use Rattle.ml_bits.specs.Packing.{word_bits, packed_bits, IsPacked}
+use Rattle.ml_bits.specs.inside.Packing.{word_bits, packed_bits, IsPacked}
 use Rattle.ml_bits.proofs.OrderLaws.{begins_within}
 use Rattle.ml_bits.proofs.WordOrder.{first_difference, xor_pos}
-use Rattle.ml_bits.proofs.Packed.{length-word_bits, word_bits_take, get_or-word_bits, length-packed_bits}
+use Rattle.ml_bits.proofs.PackedBits.{length-word_bits, word_bits_take, get_or-word_bits, length-packed_bits}
 
 -- ---- the same bits, place by place
 
@@ -32,7 +32,8 @@ record WordsDifferAt (ws vs : List ℕ) (k n : ℕ) : Type 0 where
   same : take (64 * k + n) (word_bits ws) ≡ take (64 * k + n) (word_bits vs)
   apart : get_or (word_bits ws) (64 * k + n) false ≢ get_or (word_bits vs) (64 * k + n) false
 
-words_differ_at : (ws vs : List ℕ) (k : ℕ) → k < length ws → k < length vs → take k ws ≡ take k vs → get_or ws k 0 ≢ get_or vs k 0 → get_or ws k 0 < 2 ^ 64 → get_or vs k 0 < 2 ^ 64
+words_differ_at : (ws vs : List ℕ) (k : ℕ) → k < length ws → k < length vs → take k ws ≡ take k vs → get_or ws k 0 ≢ get_or vs k 0 → get_or ws k 0 < 2 ^ 64 →
+    get_or vs k 0 < 2 ^ 64
     → WordsDifferAt ws vs k (count_leading_zeros 64 (bit_xor (get_or ws k 0) (get_or vs k 0)))
 words_differ_at ws vs k h g e differ w_fits v_fits =
     let w : ℕ = get_or ws k 0 in
@@ -51,7 +52,8 @@ words_differ_at ws vs k h g e differ w_fits v_fits =
           let at : i ≡ 64 * k + j = omega arith in
           let inside : j < n = omega arith in
           let both : get_or (word_bits ws) (64 * k + j) false ≡ get_or (word_bits vs) (64 * k + j) false =
-          get_or-word_bits ws k j false h (omega arith) ∙ same_at n (bits_of 64 w) (bits_of 64 v) d.same j inside ∙ sym (get_or-word_bits vs k j false g (omega arith)) in
+          get_or-word_bits ws k j false h (omega arith) ∙ same_at n (bits_of 64 w) (bits_of 64 v) d.same j inside
+          ∙ sym (get_or-word_bits vs k j false g (omega arith)) in
           subst (λ x. get_or (word_bits ws) x false ≡ get_or (word_bits vs) x false) (sym at) both
     ] in
     record {
@@ -89,7 +91,8 @@ common_all ws vs m n k p q h g l e =
     (λ a b _. absurd (omega arith))
 
 -- the words differ at place k
-pub common_until : (ws vs : List ℕ) (m n k z : ℕ) → IsPacked ws m → IsPacked vs n → k < length ws → k < length vs → take k ws ≡ take k vs → get_or ws k 0 ≢ get_or vs k 0
+pub common_until : (ws vs : List ℕ) (m n k z : ℕ) → IsPacked ws m → IsPacked vs n → k < length ws → k < length vs → take k ws ≡ take k vs →
+    get_or ws k 0 ≢ get_or vs k 0
     → get_or ws k 0 < 2 ^ 64 → get_or vs k 0 < 2 ^ 64 → z ≡ count_leading_zeros 64 (bit_xor (get_or ws k 0) (get_or vs k 0))
     → IsCommonLength (packed_bits ws m) (packed_bits vs n) (64 * k + min z (min m n - 64 * k))
 common_until ws vs m n k z p q h g e differ w_fits v_fits z_is =
@@ -97,7 +100,8 @@ common_until ws vs m n k z p q h g e differ w_fits v_fits z_is =
     let r : ℕ = 64 * k + min z (min m n - 64 * k) in
     let w_more : 64 * k < m = omega (arith, p.no_more) in
     let v_more : 64 * k < n = omega (arith, q.no_more) in
-    let d_same : take (64 * k + z) (word_bits ws) ≡ take (64 * k + z) (word_bits vs) = subst (λ x. take (64 * k + x) (word_bits ws) ≡ take (64 * k + x) (word_bits vs)) (sym z_is) d.same in
+    let d_same : take (64 * k + z) (word_bits ws) ≡ take (64 * k + z) (word_bits vs) =
+    subst (λ x. take (64 * k + x) (word_bits ws) ≡ take (64 * k + x) (word_bits vs)) (sym z_is) d.same in
     let d_apart : get_or (word_bits ws) (64 * k + z) false ≢ get_or (word_bits vs) (64 * k + z) false =
     subst (λ x. get_or (word_bits ws) (64 * k + x) false ≢ get_or (word_bits vs) (64 * k + x) false) (sym z_is) d.apart in
     common_from_words ws vs m n r p q (omega arith) (omega arith)

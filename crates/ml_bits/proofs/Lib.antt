@@ -1,9 +1,9 @@
-pub mod Lists
+pub mod CutLists
 pub mod WordBits
 pub mod WordOrder
-pub mod Packed
+pub mod PackedBits
 pub mod PackedOrder
 pub mod OrderLaws
 pub mod CommonLength
 pub mod Bytes
-pub mod Stored
+pub mod StoredBits

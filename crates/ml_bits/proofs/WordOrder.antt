@@ -1,5 +1,6 @@
 -- Numbers of k bits are in the order of their bits, and the highest place where they differ is where their bits first do.
-use Rattle.std.proofs.Common.{◌≡◌, ◌≢◌, ℕ, zero, suc, ◌+◌, ◌-◌, ◌*◌, ◌%◌, ◌^◌, ◌<◌, ◌≤◌, inl, inr, true, false, eqb, ◌∷◌, length, get_or, take, sym, ap, ◌∙◌, arith}
+use Rattle.std.proofs.Common.{◌≡◌, ◌≢◌, ℕ, zero, suc, ◌+◌, ◌-◌, ◌*◌, ◌%◌, ◌^◌, ◌<◌, ◌≤◌, inl, inr, true, false, eqb, ◌∷◌, length, get_or, take, sym, ap, ◌∙◌}
+use Rattle.std.proofs.Common.{arith}
 use Rattle.std.specs.declared.cmp.Ordering.TheVariants.{Less, Equal, Greater}
 use Rattle.std.specs.Ordering.{nat_cmp, bool_cmp}
 use Rattle.std.specs.Cmp.Lexicographic.{slice_cmp}
@@ -79,7 +80,8 @@ bits_of_cmp (suc k) a b h g =
             | inr q ↦
                 let t = high k b q g in
                 let within = bits_of_cmp k s.rest t.rest s.below t.below in
-                let same : nat_cmp a b ≡ nat_cmp s.rest t.rest = ap (λ x. nat_cmp x b) s.sum ∙ ap (λ x. nat_cmp (2 ^ k + s.rest) x) t.sum ∙ shifted (2 ^ k) s.rest t.rest in
+                let same : nat_cmp a b ≡ nat_cmp s.rest t.rest = ap (λ x. nat_cmp x b) s.sum ∙ ap (λ x. nat_cmp (2 ^ k + s.rest) x) t.sum
+                ∙ shifted (2 ^ k) s.rest t.rest in
                 rw (s.spelled, t.spelled, same) within
           ]
     ]

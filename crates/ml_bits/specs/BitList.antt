@@ -1,5 +1,7 @@
--- What contracts see of a bit list: its bits in order, `true` for 1, and its room, the number of bits that it holds before it takes memory.
-use Rattle.std.specs.Prelude.{ℕ, zero, suc, ◌+◌, ◌/◌, ◌%◌, ◌^◌, ◌==◌, ◌<◌, ◌≤◌, ◌≡◌, ◌≢◌, Bool, false, List, [], ◌∷◌, ◌++◌, length, take, max, slice_index_or}
+-- What contracts see of a bit list: its bits in order, `true` for 1, and its room, the number of
+-- bits that it holds before it takes memory.
+use Rattle.std.specs.Prelude.{ℕ, zero, suc, ◌+◌, ◌/◌, ◌%◌, ◌^◌, ◌==◌, ◌<◌, ◌≤◌, ◌≡◌, ◌≢◌, Bool}
+use Rattle.std.specs.Prelude.{false, List, [], ◌∷◌, ◌++◌, length, take, max, slice_index_or}
 use Rattle.std.specs.List.{flat_map}
 use Rattle.std.specs.declared.cmp.Ordering.{Ordering}
 use Rattle.std.specs.Ordering.{bool_cmp}
@@ -12,12 +14,15 @@ pub record BitList : Type 0 where
   pub room : ℕ
 
 -- a list of bits whose room is its length
-abbrev pub fresh : List Bool → BitList
-fresh bits = record { bits = bits; room = length bits }
+abbrev pub list_of_bits : List Bool → BitList
+list_of_bits bits = record { bits = bits; room = length bits }
 
 -- a list followed by more bits, and with room for them
-abbrev pub followed_by : BitList → List Bool → BitList
-followed_by list more = record { bits = list.bits ++ more; room = max list.room (length list.bits + length more) }
+abbrev pub append_bits : BitList → List Bool → BitList
+append_bits list more = record {
+  bits = list.bits ++ more;
+  room = max list.room (length list.bits + length more);
+}
 
 -- the k lowest bits of n, the highest of them first
 unfoldable pub bits_of : ℕ → ℕ → List Bool
@@ -37,9 +42,11 @@ pub record IsCommonLength (first second : List Bool) (n : ℕ) : Type 0 where
   pub within_first : n ≤ length first
   pub within_second : n ≤ length second
   pub same : take n first ≡ take n second
-  pub apart : n < length first → n < length second → slice_index_or first n false ≢ slice_index_or second n false
+  pub apart : n < length first → n < length second →
+      slice_index_or first n false ≢ slice_index_or second n false
 
--- the order of bit lists: at the first place where they differ 0 comes before 1, and a list comes before its extensions
+-- the order of bit lists: at the first place where they differ 0 comes before 1, and a list comes
+-- before its extensions
 abbrev pub bits_cmp : BitList → BitList → Ordering
 bits_cmp first second = slice_cmp bool_cmp first.bits second.bits
 

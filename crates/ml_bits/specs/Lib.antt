@@ -1,2 +1,2 @@
 pub mod BitList
-pub mod Packing
+pub mod inside

@@ -1,12 +1,15 @@
-ghost use Rattle.std.specs.Prelude.{◌≡◌, ℕ, ◌+◌, ◌*◌, ◌^◌, ◌<◌, ◌≤◌, ◌↔◌, [], ◌∷◌, false, length, take, max, IsTrue, IfOk, OnOk, OnErr, slice_index_or};
-ghost use Rattle.ml_bits.specs.BitList.{bits_of, byte_bits, fresh, followed_by};
+//! A list of bits and its room.
+ghost use Rattle.std.specs.Prelude.{◌≡◌, ℕ, ◌+◌, ◌*◌, ◌^◌, ◌<◌, ◌≤◌, ◌↔◌, [], ◌∷◌, false, length};
+ghost use Rattle.std.specs.Prelude.{take, max, IsTrue, IfOk, OnOk, OnErr, slice_index_or};
+ghost use Rattle.ml_bits.specs.BitList.{bits_of, byte_bits, list_of_bits, append_bits};
 
 use crate::OutOfMemory;
 use crate::words::{BYTE_BITS, WORD_BITS, WORD_BYTES, append, len_with, number_of};
 use std::alloc::Global;
 use std::marker::Model;
 
-/// A list of bits, with the room that it was given: how many bits it holds before it takes memory. The room is never below the length.
+/// A list of bits, with the room that it was given: how many bits it holds before it takes memory.
+/// The room is never below the length.
 #[derive(Debug, Drop)]
 pub struct Bits {
     pub(crate) words: Vec<u64>,
@@ -17,7 +20,7 @@ pub struct Bits {
 impl Model for Bits {
     ghost use Rattle.std.specs.Prelude.{vec_capacity};
     ghost use Rattle.ml_bits.specs.BitList.{BitList};
-    ghost use Rattle.ml_bits.specs.Packing.{packed_bits, IsStored};
+    ghost use Rattle.ml_bits.specs.inside.Packing.{packed_bits, IsStored};
 
     ghost Value = { BitList };
 
@@ -29,7 +32,7 @@ impl Model for Bits {
 impl Bits {
     /// The empty list, with no room. It takes no memory.
     pub fn empty(alloc: Global) -> Bits
-        ensures { result ≡ fresh [] }
+        ensures { result ≡ list_of_bits [] }
     {
         Bits {
             words: Vec::new(alloc),
@@ -41,7 +44,7 @@ impl Bits {
     /// The first `count` bits of some bytes, the highest bit of each byte first.
     pub fn from_bytes(alloc: Global, bytes: &[u8], count: usize) -> Result<Bits, OutOfMemory>
         requires { count ≤ 8 * length bytes.now }
-        ensures { IfOk result (λ list. list ≡ fresh (take count (byte_bits bytes.now))) }
+        ensures { IfOk result (λ list. list ≡ list_of_bits (take count (byte_bits bytes.now))) }
     {
         let mut list = Bits::empty(alloc);
         list.make_room(count)?;
@@ -63,6 +66,7 @@ impl Bits {
         self.len
     }
 
+    /// Whether the list has no bit.
     pub fn is_empty(&self) -> bool
         ensures { IsTrue result ↔ (self.now.bits ≡ []) }
     {
@@ -77,7 +81,8 @@ impl Bits {
         self.words[i / WORD_BITS] >> (WORD_BITS - 1 - i % WORD_BITS) & 1 == 1
     }
 
-    /// Gives the list room for `bits` bits in all, counting those that it has. After an error nothing has changed.
+    /// Gives the list room for `bits` bits in all, counting those that it has. After an error
+    /// nothing has changed.
     pub fn make_room(&mut self, bits: usize) -> Result<(), OutOfMemory>
         ensures list { self.new.bits ≡ self.old.bits }
         ensures ok { OnOk result (self.new.room ≡ max self.old.room bits) }
@@ -85,9 +90,8 @@ impl Bits {
         ensures full { OnErr result (self.old.room < bits) }
     {
         if bits > self.room {
-            let wanted = bits.div_ceil(WORD_BITS);
-            let had = self.words.len();
-            self.words.reserve(wanted.saturating_sub(had))?;
+            let words = bits.div_ceil(WORD_BITS);
+            self.words.reserve(words.saturating_sub(self.words.len()))?;
             self.room = bits;
         }
         Ok(())
@@ -95,18 +99,19 @@ impl Bits {
 
     /// Puts a bit at the end. After an error nothing has changed.
     pub fn push(&mut self, bit: bool) -> Result<(), OutOfMemory>
-        ensures ok { OnOk result (self.new ≡ followed_by self.old (bit ∷ [])) }
+        ensures ok { OnOk result (self.new ≡ append_bits self.old (bit ∷ [])) }
         ensures err { OnErr result (self.new ≡ self.old) }
         ensures full { OnErr result (self.old.room < length self.old.bits + 1) }
     {
         self.push_bits(u64::from(bit), 1)
     }
 
-    /// Puts the `count` lowest bits of a number at the end, the highest of them first. After an error nothing has changed.
+    /// Puts the `count` lowest bits of a number at the end, the highest of them first. After an
+    /// error nothing has changed.
     pub fn push_bits(&mut self, value: u64, count: usize) -> Result<(), OutOfMemory>
         requires count { count ≤ 64 }
         requires value { value < 2 ^ count }
-        ensures ok { OnOk result (self.new ≡ followed_by self.old (bits_of count value)) }
+        ensures ok { OnOk result (self.new ≡ append_bits self.old (bits_of count value)) }
         ensures err { OnErr result (self.new ≡ self.old) }
         ensures full { OnErr result (self.old.room < length self.old.bits + count) }
     {
@@ -119,9 +124,10 @@ impl Bits {
         Ok(())
     }
 
-    /// Puts the bits of some bytes at the end, the highest bit of each byte first. After an error nothing has changed.
+    /// Puts the bits of some bytes at the end, the highest bit of each byte first. After an error
+    /// nothing has changed.
     pub fn push_bytes(&mut self, bytes: &[u8]) -> Result<(), OutOfMemory>
-        ensures ok { OnOk result (self.new ≡ followed_by self.old (byte_bits bytes.now)) }
+        ensures ok { OnOk result (self.new ≡ append_bits self.old (byte_bits bytes.now)) }
         ensures err { OnErr result (self.new ≡ self.old) }
         ensures full { OnErr result (self.old.room < length self.old.bits + 8 * length bytes.now) }
     {
@@ -133,10 +139,10 @@ impl Bits {
         Ok(())
     }
 
-    /// Puts the bits of some bytes at the end of a list that has room for them.
+    // Puts the bits of some bytes at the end of a list that has room for them.
     fn push_reserved(&mut self, bytes: &[u8])
         requires { length self.old.bits + 8 * length bytes.now ≤ self.old.room }
-        ensures { self.new ≡ followed_by self.old (byte_bits bytes.now) }
+        ensures { self.new ≡ append_bits self.old (byte_bits bytes.now) }
     {
         let mut rest = bytes;
         while !rest.is_empty() {

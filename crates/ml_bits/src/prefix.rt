@@ -1,5 +1,6 @@
+//! The first bits of lists: copies of them, and how many two lists have in common.
 ghost use Rattle.std.specs.Prelude.{◌≡◌, ℕ, ◌≤◌, ◌↔◌, length, take, IsTrue, IfOk};
-ghost use Rattle.ml_bits.specs.BitList.{fresh, Begins, IsCommonLength};
+ghost use Rattle.ml_bits.specs.BitList.{list_of_bits, Begins, IsCommonLength};
 
 use crate::OutOfMemory;
 use crate::bit_list::Bits;
@@ -9,7 +10,7 @@ impl Bits {
     /// The first `n` bits.
     pub fn prefix(&self, n: usize) -> Result<Bits, OutOfMemory>
         requires { n ≤ length self.now.bits }
-        ensures { IfOk result (λ front. front ≡ fresh (take n self.now.bits)) }
+        ensures { IfOk result (λ front. front ≡ list_of_bits (take n self.now.bits)) }
     {
         let mut front = Bits::empty(*self.words.allocator());
         front.make_room(n)?;

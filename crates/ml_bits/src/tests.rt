@@ -1,9 +1,10 @@
+//! Bit lists at the borders of words.
 use crate::{Bits, OutOfMemory};
 use std::alloc::Global;
 use std::cmp::Ordering;
 use std::test::Fail;
 
-/// So many zeros, and then a tail.
+// So many zeros, and then a tail.
 fn zeros_then(alloc: Global, zeros: usize, tail: &[bool]) -> Result<Bits, OutOfMemory> {
     let mut list = Bits::empty(alloc);
     for _ in 0..zeros {
@@ -15,7 +16,7 @@ fn zeros_then(alloc: Global, zeros: usize, tail: &[bool]) -> Result<Bits, OutOfM
     Ok(list)
 }
 
-/// The list as digits.
+// The list as digits.
 fn digits(alloc: Global, list: &Bits) -> Result<String, OutOfMemory> {
     let mut text = String::new(alloc);
     for i in 0..list.len() {
@@ -24,7 +25,7 @@ fn digits(alloc: Global, list: &Bits) -> Result<String, OutOfMemory> {
     Ok(text)
 }
 
-/// Lists on both sides of the borders of words, with their order and what they have in common.
+// Lists on both sides of the borders of words, with their order and what they have in common.
 #[test]
 fn compares_across_word_borders(rt: HostRuntime) -> Result<(), Fail> {
     let alloc = rt.alloc();
@@ -53,7 +54,7 @@ fn compares_across_word_borders(rt: HostRuntime) -> Result<(), Fail> {
     Ok(())
 }
 
-/// Bits from bytes, numbers and other lists, as digits.
+// Bits from bytes, numbers and other lists, as digits.
 #[test]
 fn makes_lists_of_bytes_and_numbers(rt: HostRuntime) -> Result<(), Fail> {
     let alloc = rt.alloc();
@@ -70,7 +71,7 @@ fn makes_lists_of_bytes_and_numbers(rt: HostRuntime) -> Result<(), Fail> {
     Ok(())
 }
 
-/// A list that is cut short keeps nothing of what it was, and takes no memory.
+// A list that is cut short keeps nothing of what it was, and takes no memory.
 #[test]
 fn cuts_a_list_to_another(rt: HostRuntime) -> Result<(), Fail> {
     let alloc = rt.alloc();
@@ -83,7 +84,8 @@ fn cuts_a_list_to_another(rt: HostRuntime) -> Result<(), Fail> {
     Ok(())
 }
 
-/// The places of two codes in turn, for the codes of 0 and 2 and for those of 1 and 0: they differ first at place 125, where the first has a 1.
+// The places of two codes in turn, for the codes of 0 and 2 and for those of 1 and 0: they differ
+// first at place 125, where the first has a 1.
 #[test]
 fn orders_interleaved_codes(rt: HostRuntime) -> Result<(), Fail> {
     let alloc = rt.alloc();
@@ -104,7 +106,7 @@ fn interleaved(alloc: Global, a: u64, b: u64) -> Result<Bits, OutOfMemory> {
     Ok(list)
 }
 
-/// Lists may be sent to threads and shared by them.
+// Lists may be sent to threads and shared by them.
 #[test]
 fn may_be_shared(rt: HostRuntime) {
     shared(&Bits::empty(rt.alloc()));

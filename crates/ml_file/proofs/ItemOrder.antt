@@ -16,9 +16,9 @@ use Rattle.ml_bits.proofs.OrderLaws.{same_from_cmp}
 use Rattle.ml_term.specs.declared.declaration.Kind.{Kind}
 use Rattle.ml_term.specs.declared.declaration.Kind.TheVariants.{Relation, Clauses}
 use Rattle.ml_region.specs.declared.item.Item.{Item}
-use Rattle.ml_file.specs.Hits.{read}
+use Rattle.ml_file.specs.Hits.{borrowed_items}
 use Rattle.ml_file.specs.PlainList.{front_cmp, back_cmp, by_front, item_cmp, IsListOf}
-use Rattle.ml_file.proofs.Orders.{front_total, back_order, key_total, item_through}
+use Rattle.ml_file.proofs.ItemOrders.{front_total, back_order, key_total, item_through}
 
 -- ---- a total order
 
@@ -28,7 +28,8 @@ front_turned true false f a g b first second = refl
 front_turned false true f a g b first second = refl
 front_turned false false f a g b first second = second
 
-front_same : (p q r : Bool) (f a g b h c : Ordering) → (f ≡ Equal → g ≡ h) → (a ≡ Equal → b ≡ c) → by_front p q f a ≡ Equal → by_front p r g b ≡ by_front q r h c
+front_same : (p q r : Bool) (f a g b h c : Ordering) → (f ≡ Equal → g ≡ h) → (a ≡ Equal → b ≡ c) → by_front p q f a ≡ Equal →
+    by_front p r g b ≡ by_front q r h c
 front_same true true true f a g b h c first second s = first s
 front_same true true false f a g b h c first second s = refl
 front_same true false r f a g b h c first second s = absurd (cc s)
@@ -38,9 +39,11 @@ front_same false false false f a g b h c first second s = second s
 
 clause_total : IsTotalOrder (item_cmp Clauses)
 clause_total = record {
-  antisymm = λ x y. front_turned x.front y.front (front_cmp x y) (back_cmp x y) (front_cmp y x) (back_cmp y x) (front_total.antisymm x y) (back_order.antisymm x y);
+  antisymm = λ x y. front_turned x.front y.front (front_cmp x y) (back_cmp x y) (front_cmp y x) (back_cmp y x) (front_total.antisymm x y)
+      (back_order.antisymm x y);
   trans = item_through Clauses;
-  congr = λ x y z. front_same x.front y.front z.front (front_cmp x y) (back_cmp x y) (front_cmp x z) (back_cmp x z) (front_cmp y z) (back_cmp y z) (front_total.congr x y z) (back_order.congr x y z);
+  congr = λ x y z. front_same x.front y.front z.front (front_cmp x y) (back_cmp x y) (front_cmp x z) (back_cmp x z) (front_cmp y z) (back_cmp y z)
+      (front_total.congr x y z) (back_order.congr x y z);
 }
 
 pub item_total : (kind : Kind) → IsTotalOrder (item_cmp kind)
@@ -83,7 +86,8 @@ apart_swapped {X} R xs a b h k apart i j d l m n =
     let at = swapped_from_swap xs ys a b d h k refl in
     let here : i < length xs = omega (arith, l, long) in
     let there : j < length xs = omega (arith, m, long) in
-    let carry : (s t : ℕ) → get_or ys i d ≡ get_or xs s d → get_or ys j d ≡ get_or xs t d → s < length xs → t < length xs → s ≢ t → R (get_or ys i d) (get_or ys j d) =
+    let carry : (s t : ℕ) → get_or ys i d ≡ get_or xs s d → get_or ys j d ≡ get_or xs t d → s < length xs → t < length xs → s ≢ t →
+    R (get_or ys i d) (get_or ys j d) =
     λ s t e f p q o. subst (λ x. R x (get_or ys j d)) (sym e) (subst (R (get_or xs s d)) (sym f) (apart s t d p q o)) in
     let first : (s : ℕ) → s ≡ a → get_or ys s d ≡ get_or xs b d = λ s e. ap (λ r. get_or ys r d) e ∙ at.0 in
     let second : (s : ℕ) → s ≡ b → get_or ys s d ≡ get_or xs a d = λ s e. ap (λ r. get_or ys r d) e ∙ at.1 in
@@ -131,11 +135,12 @@ pub goes_in_order : (kind : Kind) → IsStrictWeakOrder (goes_before kind)
 goes_in_order kind = ranks_by (item_total kind) (λ (x : Bor Item). x.now)
 
 -- a sorted permutation of different items is their list
-pub sorted_list : (kind : Kind) (xs ys : List (Bor Item)) → AllPairs (λ a b. item_cmp kind a b ≢ Equal) (read xs) → IsPermutation xs ys → IsSortedBy (goes_before kind) ys
-    → IsListOf kind (read xs) (read ys)
+pub sorted_list : (kind : Kind) (xs ys : List (Bor Item)) → AllPairs (λ a b. item_cmp kind a b ≢ Equal) (borrowed_items xs) → IsPermutation xs ys →
+    IsSortedBy (goes_before kind) ys
+    → IsListOf kind (borrowed_items xs) (borrowed_items ys)
 sorted_list kind xs ys pairs moved sorted =
-    let items : List Item = read xs in
-    let list : List Item = read ys in
+    let items : List Item = borrowed_items xs in
+    let list : List Item = borrowed_items ys in
     let carried : IsPermutation items list = IsPermutation-map (λ (x : Bor Item). x.now) xs ys moved in
     let R : Item → Item → Type 0 = λ a b. item_cmp kind a b ≢ Equal in
     let turned : (x y : Item) → R x y → R y x = λ x y n e. n ((item_total kind).antisymm x y ∙ ap ordering_reverse e) in
@@ -147,14 +152,19 @@ sorted_list kind xs ys pairs moved sorted =
       rises = λ i j d l h. rise i j d l h apart;
     }
   where
-    rise : (i j : ℕ) (d : Item) → i < j → j < length (read ys) → AllApart (λ a b. item_cmp kind a b ≢ Equal) (read ys) → item_cmp kind (get_or (read ys) i d) (get_or (read ys) j d) ≡ Less
+    rise : (i j : ℕ) (d : Item) → i < j → j < length (borrowed_items ys) → AllApart (λ a b. item_cmp kind a b ≢ Equal) (borrowed_items ys) →
+        item_cmp kind (get_or (borrowed_items ys) i d) (get_or (borrowed_items ys) j d) ≡ Less
     rise i j d l h apart =
         let long = length-map ys (λ (x : Bor Item). x.now) in
         let e : Bor Item = some ys (omega (arith, h, long)) in
-        let first : get_or (read ys) i d ≡ (get_or ys i e).now = get_or-map (λ (x : Bor Item). x.now) ys i e d (omega (arith, l, h, long)) in
-        let second : get_or (read ys) j d ≡ (get_or ys j e).now = get_or-map (λ (x : Bor Item). x.now) ys j e d (omega (arith, h, long)) in
-        let before : is_lt (item_cmp kind (get_or ys j e).now (get_or ys i e).now) ≡ false = sorted_far (goes_before kind) (goes_in_order kind) ys sorted i j e (omega (arith, l)) (omega (arith, h, long)) in
-        let turned : is_lt (item_cmp kind (get_or (read ys) j d) (get_or (read ys) i d)) ≡ false =
-        subst (λ x. is_lt (item_cmp kind (get_or (read ys) j d) x) ≡ false) (sym first) (subst (λ x. is_lt (item_cmp kind x (get_or ys i e).now) ≡ false) (sym second) before) in
-        less_from (item_cmp kind (get_or (read ys) i d) (get_or (read ys) j d)) (item_cmp kind (get_or (read ys) j d) (get_or (read ys) i d)) ((item_total kind).antisymm (get_or (read ys) i d) (get_or (read ys) j d)) turned
+        let first : get_or (borrowed_items ys) i d ≡ (get_or ys i e).now = get_or-map (λ (x : Bor Item). x.now) ys i e d (omega (arith, l, h, long)) in
+        let second : get_or (borrowed_items ys) j d ≡ (get_or ys j e).now = get_or-map (λ (x : Bor Item). x.now) ys j e d (omega (arith, h, long)) in
+        let before : is_lt (item_cmp kind (get_or ys j e).now (get_or ys i e).now) ≡ false =
+        sorted_far (goes_before kind) (goes_in_order kind) ys sorted i j e (omega (arith, l)) (omega (arith, h, long)) in
+        let turned : is_lt (item_cmp kind (get_or (borrowed_items ys) j d) (get_or (borrowed_items ys) i d)) ≡ false =
+        subst (λ x. is_lt (item_cmp kind (get_or (borrowed_items ys) j d) x) ≡ false) (sym first)
+        (subst (λ x. is_lt (item_cmp kind x (get_or ys i e).now) ≡ false) (sym second) before) in
+        less_from (item_cmp kind (get_or (borrowed_items ys) i d) (get_or (borrowed_items ys) j d))
+        (item_cmp kind (get_or (borrowed_items ys) j d) (get_or (borrowed_items ys) i d))
+        ((item_total kind).antisymm (get_or (borrowed_items ys) i d) (get_or (borrowed_items ys) j d)) turned
         (apart i j d (omega (arith, l, h)) h (λ s. omega (arith, s, l)))

@@ -9,7 +9,7 @@ use Rattle.std.proofs.lemmas.Bool.{both_ways, cond-false, cond-true, false_from_
 use Rattle.std.proofs.lemmas.List.Elements.{All-contains, All-tail, Contains-get_or}
 use Rattle.std.proofs.lemmas.List.Kept.{AllPairs-cons, AllPairs-filter}
 use Rattle.ml_term.specs.Patterns.{same_bits}
-use Rattle.ml_term.proofs.Columns.{same_bits_itself, same_bits_equal}
+use Rattle.ml_term.proofs.KeyColumns.{same_bits_itself, same_bits_equal}
 use Rattle.ml_term.specs.declared.declaration.Decl.{Decl}
 use Rattle.ml_term.specs.declared.declaration.Kind.{Kind}
 use Rattle.ml_term.specs.declared.declaration.Kind.TheVariants.{Relation, Clauses}
@@ -19,9 +19,9 @@ use Rattle.ml_file.specs.Adding.{IsAdded}
 use Rattle.ml_file.specs.Files.{items_in, IsAbsent, IsFile, IsHeld, IsRemoved}
 use Rattle.ml_file.specs.ListSteps.{with_item, without_key}
 use Rattle.ml_file.specs.PlainList.{item_cmp, IsListOf, IsWith}
-use Rattle.ml_file.proofs.Differing.{all_differ}
+use Rattle.ml_file.proofs.DifferingItems.{all_differ}
 use Rattle.ml_file.proofs.ItemOrder.{equal_keys, equal_numbers, item_total, less_from}
-use Rattle.ml_file.proofs.Orders.{contains_cases, contains_first, contains_later, first_before, item_through, rest_rises}
+use Rattle.ml_file.proofs.ItemOrders.{contains_cases, contains_first, contains_later, first_before, item_through, rest_rises}
 
 all_where : {X : Type 0} (P : X → Type 0) (xs : List X) → ((x : X) → Contains xs x → P x) → All P xs
 all_where P xs h k d l = h (get_or xs k d) (Contains-get_or xs k d l)
@@ -35,7 +35,8 @@ with_holds : (kind : Kind) (item : Item) (list : List Item) (z : Item) → Conta
 with_holds kind item [] z h = elim (contains_cases item z [] h) [ inl e ↦ inr (sym e) | inr there ↦ inl there ]
 with_holds kind item (x ∷ list) z h = placed (is_lt (item_cmp kind item x)) (with_item kind item list) (with_holds kind item list z) h
   where
-    placed : (b : Bool) (rest : List Item) → (Contains rest z → Contains list z ⊎ (z ≡ item)) → Contains (cond b (item ∷ x ∷ list) (x ∷ rest)) z → Contains (x ∷ list) z ⊎ (z ≡ item)
+    placed : (b : Bool) (rest : List Item) → (Contains rest z → Contains list z ⊎ (z ≡ item)) → Contains (cond b (item ∷ x ∷ list) (x ∷ rest)) z →
+        Contains (x ∷ list) z ⊎ (z ≡ item)
     placed true rest later h = elim (contains_cases item z (x ∷ list) h) [ inl e ↦ inr (sym e) | inr there ↦ inl there ]
     placed false rest later h = elim (contains_cases x z rest h) [
       | inl e ↦ inl (subst (Contains (x ∷ list)) e (contains_first x list))
@@ -49,7 +50,8 @@ with_has kind item [] z either = elim either [
 ]
 with_has kind item (x ∷ list) z either = placed (is_lt (item_cmp kind item x)) (with_item kind item list) (with_has kind item list z) either
   where
-    placed : (b : Bool) (rest : List Item) → (Contains list z ⊎ (z ≡ item) → Contains rest z) → Contains (x ∷ list) z ⊎ (z ≡ item) → Contains (cond b (item ∷ x ∷ list) (x ∷ rest)) z
+    placed : (b : Bool) (rest : List Item) → (Contains list z ⊎ (z ≡ item) → Contains rest z) → Contains (x ∷ list) z ⊎ (z ≡ item) →
+        Contains (cond b (item ∷ x ∷ list) (x ∷ rest)) z
     placed true rest later either = elim either [
       | inl there ↦ contains_later item z (x ∷ list) there
       | inr e ↦ subst (Contains (item ∷ x ∷ list)) (sym e) (contains_first item (x ∷ list))
@@ -74,7 +76,8 @@ with_rises kind item (x ∷ list) rises differ =
     placed (is_lt (item_cmp kind item x)) refl (with_item kind item list) (with_holds kind item list)
     (with_rises kind item list (rest_rises (IsBefore kind) x list rises) (λ z here. differ z (contains_later x z list here)))
   where
-    placed : (b : Bool) → is_lt (item_cmp kind item x) ≡ b → (rest : List Item) → ((z : Item) → Contains rest z → Contains list z ⊎ (z ≡ item)) → AllPairs (IsBefore kind) rest
+    placed : (b : Bool) → is_lt (item_cmp kind item x) ≡ b → (rest : List Item) → ((z : Item) → Contains rest z → Contains list z ⊎ (z ≡ item)) →
+        AllPairs (IsBefore kind) rest
         → AllPairs (IsBefore kind) (cond b (item ∷ x ∷ list) (x ∷ rest))
     placed true is rest holds up =
         let first : IsBefore kind item x = less_is (item_cmp kind item x) is in
@@ -84,7 +87,8 @@ with_rises kind item (x ∷ list) rises differ =
           | inr here ↦ item_through kind item x z first (first_before (IsBefore kind) x list rises z here)
         ])) rises
     placed false is rest holds up =
-        let first : IsBefore kind x item = less_from (item_cmp kind x item) (item_cmp kind item x) ((item_total kind).antisymm x item) is (differ x (contains_first x list)) in
+        let first : IsBefore kind x item = less_from (item_cmp kind x item) (item_cmp kind item x) ((item_total kind).antisymm x item) is
+        (differ x (contains_first x list)) in
         AllPairs-cons (IsBefore kind) x rest
         (all_where (IsBefore kind x) rest (λ z there. elim (holds z there) [
           | inl here ↦ first_before (IsBefore kind) x list rises z here
@@ -92,7 +96,8 @@ with_rises kind item (x ∷ list) rises differ =
         ])) up
 
 -- the plain list of items, one of which is new and equal to no other in their order
-pub list_with : (kind : Kind) (before : List Item) (item : Item) (after list : List Item) → IsWith before item after → ((x : Item) → Contains before x → item_cmp kind x item ≢ Equal)
+pub list_with : (kind : Kind) (before : List Item) (item : Item) (after list : List Item) → IsWith before item after →
+    ((x : Item) → Contains before x → item_cmp kind x item ≢ Equal)
     → IsListOf kind before list → IsListOf kind after (with_item kind item list)
 list_with kind before item after list more differ is =
     record {
@@ -113,12 +118,14 @@ with_last kind item (x ∷ list) all =
 
 pub with_first : (kind : Kind) (item : Item) (list : List Item) → All (λ x. item_cmp kind item x ≡ Less) list → with_item kind item list ≡ item ∷ list
 with_first kind item [] all = refl
-with_first kind item (x ∷ list) all = cond-true (is_lt (item_cmp kind item x)) (item ∷ x ∷ list) (x ∷ with_item kind item list) (ap is_lt (all 0 x (omega arith)))
+with_first kind item (x ∷ list) all = cond-true (is_lt (item_cmp kind item x)) (item ∷ x ∷ list) (x ∷ with_item kind item list)
+    (ap is_lt (all 0 x (omega arith)))
 
 -- ---- without a key
 
 has_not : (x : Item) (key : List Bool) → not (same_bits x.key.bits key) ≡ true → x.key.bits ≢ key
-has_not x key h e = both_ways (same_bits x.key.bits key) (not-true (same_bits x.key.bits key) h) (subst (λ k. same_bits x.key.bits k ≡ true) e (same_bits_itself x.key.bits))
+has_not x key h e = both_ways (same_bits x.key.bits key) (not-true (same_bits x.key.bits key) h)
+    (subst (λ k. same_bits x.key.bits k ≡ true) e (same_bits_itself x.key.bits))
 
 is_not : (x : Item) (key : List Bool) → x.key.bits ≢ key → not (same_bits x.key.bits key) ≡ true
 is_not x key d = not_from_false (same_bits x.key.bits key) (false_from_ne_true (same_bits x.key.bits key) (λ e. d (same_bits_equal x.key.bits key e)))
@@ -128,7 +135,8 @@ kept_from : (test : Item → Bool) (list : List Item) (z : Item) → Contains (f
 kept_from test [] z h = absurd (omega (arith, h.1))
 kept_from test (x ∷ list) z h = tested (test x) refl (filter test list) (kept_from test list z) h
   where
-    tested : (b : Bool) → test x ≡ b → (rest : List Item) → (Contains rest z → Contains list z × (test z ≡ true)) → Contains (cond b (x ∷ rest) rest) z → Contains (x ∷ list) z × (test z ≡ true)
+    tested : (b : Bool) → test x ≡ b → (rest : List Item) → (Contains rest z → Contains list z × (test z ≡ true)) → Contains (cond b (x ∷ rest) rest) z →
+        Contains (x ∷ list) z × (test z ≡ true)
     tested true is rest later h = elim (contains_cases x z rest h) [
       | inl e ↦ (subst (Contains (x ∷ list)) e (contains_first x list), subst (λ y. test y ≡ true) e is)
       | inr there ↦ let k = later there in (contains_later x z list k.0, k.1)
@@ -150,13 +158,15 @@ kept_in test (x ∷ list) z h t = tested (test x) refl (filter test list) (λ th
     ]
 
 -- the plain list of items, of which the one with a key went
-pub list_without : (kind : Kind) (before : List Item) (item : Item) (after list : List Item) → IsWith after item before → All (λ (x : Item). x.key.bits ≢ item.key.bits) after
+pub list_without : (kind : Kind) (before : List Item) (item : Item) (after list : List Item) → IsWith after item before →
+    All (λ (x : Item). x.key.bits ≢ item.key.bits) after
     → IsListOf kind before list → IsListOf kind after (without_key item.key.bits list)
 list_without kind before item after list more gone is =
     let test : Item → Bool = λ (x : Item). not (same_bits x.key.bits item.key.bits) in
     record {
       holds = λ x. (
-        λ there. kept_in test list x ((is.holds x).0 ((more x).1 (inl there))) (is_not x item.key.bits (All-contains (λ (y : Item). y.key.bits ≢ item.key.bits) after x gone there)),
+        λ there. kept_in test list x ((is.holds x).0 ((more x).1 (inl there)))
+            (is_not x item.key.bits (All-contains (λ (y : Item). y.key.bits ≢ item.key.bits) after x gone there)),
         λ there.
             let kept : Contains list x × (test x ≡ true) = kept_from test list x there in
             elim ((more x).0 ((is.holds x).1 kept.0)) [
@@ -170,12 +180,15 @@ list_without kind before item after list more gone is =
 -- ---- an insert
 
 -- an item with a key and a number of its own is equal to no other
-own_place : (kind : Kind) (items : List Item) (item : Item) → All (λ (x : Item). x.key.bits ≢ item.key.bits) items → (kind ≡ Clauses → All (λ (x : Item). x.number ≢ item.number) items)
+own_place : (kind : Kind) (items : List Item) (item : Item) → All (λ (x : Item). x.key.bits ≢ item.key.bits) items →
+    (kind ≡ Clauses → All (λ (x : Item). x.number ≢ item.number) items)
     → (x : Item) → Contains items x → item_cmp kind x item ≢ Equal
 own_place Relation items item absent numbered x there e = All-contains (λ (y : Item). y.key.bits ≢ item.key.bits) items x absent there (equal_keys x item e)
-own_place Clauses items item absent numbered x there e = All-contains (λ (y : Item). y.number ≢ item.number) items x (numbered refl) there (equal_numbers x item e)
+own_place Clauses items item absent numbered x there e =
+    All-contains (λ (y : Item). y.number ≢ item.number) items x (numbered refl) there (equal_numbers x item e)
 
-pub added_list : (kind : Kind) (old new : List Region) (item : Item) (list : List Item) → IsAdded old item new → (kind ≡ Clauses → All (λ (x : Item). x.number ≢ item.number) (items_in old))
+pub added_list : (kind : Kind) (old new : List Region) (item : Item) (list : List Item) → IsAdded old item new →
+    (kind ≡ Clauses → All (λ (x : Item). x.number ≢ item.number) (items_in old))
     → IsListOf kind (items_in old) list → IsListOf kind (items_in new) (with_item kind item list)
 added_list kind old new item list added numbered is =
     list_with kind (items_in old) item (items_in new) list added.more (own_place kind (items_in old) item added.absent numbered) is
@@ -186,13 +199,15 @@ unadded_list kind old new item list added is = list_without kind (items_in new) 
 
 -- ---- a removal
 
-pub removed_list : (kind : Kind) (old : List Region) (key : List Bool) (new : List Region) (list : List Item) → IsRemoved old key new → IsListOf kind (items_in old) list
+pub removed_list : (kind : Kind) (old : List Region) (key : List Bool) (new : List Region) (list : List Item) → IsRemoved old key new →
+    IsListOf kind (items_in old) list
     → IsListOf kind (items_in new) (without_key key list)
 removed_list kind old key new list removed is =
     let item : Item = removed.item in
     let same : item.key.bits ≡ key = removed.held.key_is in
     subst (λ k. IsListOf kind (items_in new) (without_key k list)) same
-    (list_without kind (items_in old) item (items_in new) list removed.left (subst (λ k. All (λ (x : Item). x.key.bits ≢ k) (items_in new)) (sym same) removed.gone) is)
+    (list_without kind (items_in old) item (items_in new) list removed.left
+    (subst (λ k. All (λ (x : Item). x.key.bits ≢ k) (items_in new)) (sym same) removed.gone) is)
 
 pub unremoved_list : (kind : Kind) (old : List Region) (key : List Bool) (new : List Region) (list : List Item) → (removed : IsRemoved old key new)
     → (kind ≡ Clauses → All (λ (x : Item). x.number ≢ removed.item.number) (items_in new)) → IsListOf kind (items_in new) list
@@ -204,14 +219,16 @@ unremoved_list kind old key new list removed numbered is =
 
 -- ---- a look
 
-pub held_list : (kind : Kind) (regions : List Region) (key : List Bool) (x : Item) (list : List Item) → IsListOf kind (items_in regions) list → IsHeld regions key x
+pub held_list : (kind : Kind) (regions : List Region) (key : List Bool) (x : Item) (list : List Item) → IsListOf kind (items_in regions) list →
+    IsHeld regions key x
     → Contains list x × (x.key.bits ≡ key)
 held_list kind regions key x list is held = ((is.holds x).0 held.inside, held.key_is)
 
 pub absent_list : (kind : Kind) (regions : List Region) (key : List Bool) (list : List Item) → IsListOf kind (items_in regions) list → IsAbsent regions key
     → All (λ (x : Item). x.key.bits ≢ key) list
 absent_list kind regions key list is absent =
-    all_where (λ (x : Item). x.key.bits ≢ key) list (λ x there. All-contains (λ (y : Item). y.key.bits ≢ key) (items_in regions) x absent ((is.holds x).1 there))
+    all_where (λ (x : Item). x.key.bits ≢ key) list (λ x there.
+    All-contains (λ (y : Item). y.key.bits ≢ key) (items_in regions) x absent ((is.holds x).1 there))
 
 -- ---- items have a list
 
@@ -227,5 +244,6 @@ items_listed kind (x ∷ items) differ =
     first_before (λ a b. item_cmp kind a b ≢ Equal) x items differ z here ((item_total kind).antisymm x z ∙ ap ordering_reverse e) in
     (with_item kind x rest.0, list_with kind items x (x ∷ items) rest.0 more apart rest.1)
 
-pub file_listed : (decl : Decl) (regions : List Region) (room : ℕ) → IsWellPlaced regions → IsFile decl regions room → (list : List Item) × IsListOf decl.kind (items_in regions) list
+pub file_listed : (decl : Decl) (regions : List Region) (room : ℕ) → IsWellPlaced regions → IsFile decl regions room →
+    (list : List Item) × IsListOf decl.kind (items_in regions) list
 file_listed decl regions room well file = items_listed decl.kind (items_in regions) (all_differ decl regions room well file)

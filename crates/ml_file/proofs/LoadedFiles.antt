@@ -9,7 +9,7 @@ use Rattle.std.proofs.lemmas.List.Elements.{Contains-get_or}
 use Rattle.std.proofs.lemmas.List.Kept.{AllPairs-cons}
 use Rattle.ml_key.specs.ItemKeys.{item_key}
 use Rattle.ml_region.specs.declared.item.Item.{Item}
-use Rattle.ml_search.specs.Db.{Item as ListItem, at, terms, loaded_from}
+use Rattle.ml_search.specs.Db.{Item as ListItem, at, terms, load_list_from}
 use Rattle.ml_search.specs.Loading.{first_list, in_key_order}
 use Rattle.ml_term.proofs.Orderings.{less}
 use Rattle.ml_term.specs.Keys.{key_cmp, tuple_key}
@@ -22,11 +22,11 @@ use Rattle.ml_term.specs.declared.declaration.Kind.TheVariants.{Relation, Clause
 use Rattle.ml_file.specs.Files.{File, items_in}
 use Rattle.ml_file.specs.PlainList.{clause_cmp, item_cmp, IsListOf}
 use Rattle.ml_file.specs.Settled.{AreSettled, HasSameItems}
-use Rattle.ml_file.specs.Stores.{IsLoadedItem, AreListed, IsLoadedFile, IsNthItem, AreFrom, HaveTerms, HasTaken, listed, terms_in}
-use Rattle.ml_file.proofs.Held.{after_remove}
-use Rattle.ml_file.proofs.KeyOrdered.{Precedes, all_from, all_has, has_all, first_or_later, is_first, rises_all}
-use Rattle.ml_file.proofs.Loads.{Among, among, has_term}
-use Rattle.ml_file.proofs.Orders.{contains_later, first_before, item_itself, rest_rises}
+use Rattle.ml_file.specs.Stores.{IsLoadedItem, AreListed, IsLoadedFile, IsNthItem, AreFrom, HaveTerms, HasTaken, list_item_of, terms_in}
+use Rattle.ml_file.proofs.HeldItems.{after_remove}
+use Rattle.ml_file.proofs.KeyOrderedTuples.{Precedes, all_from, all_has, has_all, first_or_later, is_first, rises_all}
+use Rattle.ml_file.proofs.FileLoads.{Among, among, has_term}
+use Rattle.ml_file.proofs.ItemOrders.{contains_later, first_before, item_itself, rest_rises}
 
 -- ---- clauses
 
@@ -40,13 +40,14 @@ in_turn decl n [] h = λ i j d l k. absurd (omega (arith, k))
 in_turn decl n (x ∷ xs) h =
     AllPairs-cons (λ (a : Item) (b : Item). clause_cmp a b ≡ Less) x xs
     (all_from (λ y. clause_cmp x y ≡ Less) xs
-    (λ y there. let found : Among decl (1 + n) xs y = among decl (1 + n) xs y h.1 there in earlier decl n found.turn x y h.0 found.is (omega (arith, found.low))))
+    (λ y there. let found : Among decl (1 + n) xs y = among decl (1 + n) xs y h.1 there in
+    earlier decl n found.turn x y h.0 found.is (omega (arith, found.low))))
     (in_turn decl (1 + n) xs h.1)
 
-all_listed : (decl : Decl) (n : ℕ) (items : List Item) → AreFrom decl n items → map listed items ≡ loaded_from n (terms_in items)
+all_listed : (decl : Decl) (n : ℕ) (items : List Item) → AreFrom decl n items → map list_item_of items ≡ load_list_from n (terms_in items)
 all_listed decl n [] h = refl
 all_listed decl n (x ∷ xs) h =
-    let rest : map listed xs ≡ loaded_from (1 + n) (terms_in xs) = all_listed decl (1 + n) xs h.1 in
+    let rest : map list_item_of xs ≡ load_list_from (1 + n) (terms_in xs) = all_listed decl (1 + n) xs h.1 in
     λ i. record { id = record { place = at (h.0.place i); change = h.0.change i }; term = seen x.term } ∷ rest i
 
 -- ---- tuples
@@ -67,7 +68,8 @@ with_term [] t h = absurd (omega (arith, h.1))
 with_term (x ∷ xs) t h =
     elim (first_or_later (seen x.term) t (terms_in xs) h) [
       | inl e ↦ record { item = x; inside = is_first x x xs refl; is = sym e }
-      | inr later ↦ let found : HasTerm xs t = with_term xs t later in record { item = found.item; inside = contains_later x found.item xs found.inside; is = found.is }
+      | inr later ↦ let found : HasTerm xs t = with_term xs t later in
+          record { item = found.item; inside = contains_later x found.item xs found.inside; is = found.is }
     ]
 
 picked : (came : List Item) (us : List Tree) → ((t : Tree) → Contains us t → Contains (terms_in came) t) → Picked came us
@@ -82,7 +84,8 @@ picked came (u ∷ us) all =
     }
 
 -- of items with different terms, those with one term are one
-same_item : (items : List Item) → AllPairs (λ (a : Item) (b : Item). seen a.term ≢ seen b.term) items → (x y : Item) → Contains items x → Contains items y → seen x.term ≡ seen y.term → x ≡ y
+same_item : (items : List Item) → AllPairs (λ (a : Item) (b : Item). seen a.term ≢ seen b.term) items → (x y : Item) → Contains items x → Contains items y →
+    seen x.term ≡ seen y.term → x ≡ y
 same_item [] differ x y p q e = absurd (omega (arith, p.1))
 same_item (z ∷ zs) differ x y p q e =
     let R : Item → Item → Type 0 = λ a b. seen a.term ≢ seen b.term in
@@ -116,7 +119,8 @@ differ_by : {X Y : Type 0} (f : X → Y) (xs : List X) → AllPairs (λ (a : X) 
 differ_by f xs differ i j d l h e = differ i j d l h (ap f e)
 
 -- items whose terms rise rise by their keys
-by_keys : (keys : List ℕ) (list : List Item) → ((x : Item) → Contains list x → x.key.bits ≡ tuple_key keys (seen x.term)) → AllPairs (Precedes keys) (terms_in list)
+by_keys : (keys : List ℕ) (list : List Item) → ((x : Item) → Contains list x → x.key.bits ≡ tuple_key keys (seen x.term)) →
+    AllPairs (Precedes keys) (terms_in list)
     → AllPairs (λ (a : Item) (b : Item). item_cmp Relation a b ≡ Less) list
 by_keys keys list keyed rises i j d l h =
     let x : Item = get_or list i d in
@@ -125,7 +129,8 @@ by_keys keys list keyed rises i j d l h =
     let first : get_or (terms_in list) i (seen d.term) ≡ seen x.term = get_or-map (λ (z : Item). seen z.term) list i d (seen d.term) (omega (arith, l, h)) in
     let second : get_or (terms_in list) j (seen d.term) ≡ seen y.term = get_or-map (λ (z : Item). seen z.term) list j d (seen d.term) h in
     let before : Precedes keys (seen x.term) (seen y.term) =
-    subst (λ u. Precedes keys (seen x.term) u) second (subst (λ t. Precedes keys t (get_or (terms_in list) j (seen d.term))) first (rises i j (seen d.term) l (omega (arith, h, many)))) in
+    subst (λ u. Precedes keys (seen x.term) u) second (subst (λ t. Precedes keys t (get_or (terms_in list) j (seen d.term))) first
+    (rises i j (seen d.term) l (omega (arith, h, many)))) in
     let key_x : x.key.bits ≡ tuple_key keys (seen x.term) = keyed x (Contains-get_or list i d (omega (arith, l, h))) in
     let key_y : y.key.bits ≡ tuple_key keys (seen y.term) = keyed y (Contains-get_or list j d h) in
     subst (λ k. key_cmp k y.key.bits ≡ Less) (sym key_x) (subst (λ k. key_cmp (tuple_key keys (seen x.term)) k ≡ Less) (sym key_y) before)
@@ -140,13 +145,14 @@ record PlainOf (kind : Kind) (items came : List Item) (list : List ListItem) : T
   part : (x : Item) → Contains plain x → Contains came x
   many : length came ≡ length plain
 
-terms_loaded : (n : ℕ) (ts : List Tree) → terms (loaded_from n ts) ≡ ts
+terms_loaded : (n : ℕ) (ts : List Tree) → terms (load_list_from n ts) ≡ ts
 terms_loaded n [] = refl
 terms_loaded n (t ∷ ts) = ap (λ us. t ∷ us) (terms_loaded (1 + n) ts)
 
-plain_of : (decl : Decl) (kind : Kind) (keys : List ℕ) (items came : List Item) (ts : List Tree) → ((x : Item) → Contains items x ↔ Contains came x) → AreFrom decl 0 came
+plain_of : (decl : Decl) (kind : Kind) (keys : List ℕ) (items came : List Item) (ts : List Tree) → ((x : Item) → Contains items x ↔ Contains came x) →
+    AreFrom decl 0 came
     → ((x : Item) → kind ≡ Relation → Contains came x → x.key.bits ≡ tuple_key keys (seen x.term)) → HaveTerms kind came ts
-    → PlainOf kind items came (loaded_from 0 (first_list kind keys ts))
+    → PlainOf kind items came (load_list_from 0 (first_list kind keys ts))
 plain_of decl Relation keys items came ts inside each keyed have =
     let ordered : List Tree = in_key_order keys ts in
     let back : (t : Tree) → Contains ordered t → Contains (terms_in came) t = λ t h. (have.1 t).1 (all_has keys ts t h) in
@@ -175,7 +181,7 @@ plain_of decl Clauses keys items came ts inside each keyed have =
     record {
       plain = came;
       is = record { holds = inside; rises = in_turn decl 0 came each };
-      same = all_listed decl 0 came each ∙ ap (loaded_from 0) have;
+      same = all_listed decl 0 came each ∙ ap (load_list_from 0) have;
       part = λ x h. h;
       many = refl;
     }
@@ -186,7 +192,8 @@ key_of_tuple Clauses keys t n is = absurd (cc is)
 
 -- ---- the file
 
-pub taken_settled : (decl : Decl) (ts : List Tree) (old new : File) → HasTaken decl ts old → HasSameItems old.regions new.regions → new ≡ record old { regions = new.regions }
+pub taken_settled : (decl : Decl) (ts : List Tree) (old new : File) → HasTaken decl ts old → HasSameItems old.regions new.regions →
+    new ≡ record old { regions = new.regions }
     → HasTaken decl ts new
 taken_settled decl ts old new taken items others =
     record {
@@ -200,11 +207,11 @@ taken_settled decl ts old new taken items others =
     }
 
 pub loaded_file : (decl : Decl) (ts : List Tree) (file : File) → HasTaken decl ts file → AreSettled file.regions
-    → IsLoadedFile decl (loaded_from 0 (first_list decl.kind decl.keys ts)) file
+    → IsLoadedFile decl (load_list_from 0 (first_list decl.kind decl.keys ts)) file
 loaded_file decl ts file taken settled =
     let came : List Item = taken.came in
     let of_turn : (x : Item) → Contains came x → Among decl 0 came x = λ x h. among decl 0 came x taken.each h in
-    let told : PlainOf decl.kind (items_in file.regions) came (loaded_from 0 (first_list decl.kind decl.keys ts)) =
+    let told : PlainOf decl.kind (items_in file.regions) came (load_list_from 0 (first_list decl.kind decl.keys ts)) =
     plain_of decl decl.kind decl.keys (items_in file.regions) came ts taken.inside taken.each
     (λ x relation h. (of_turn x h).is.keyed ∙ key_of_tuple decl.kind decl.keys (seen x.term) x.number relation) taken.have in
     record {

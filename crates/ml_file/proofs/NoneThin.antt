@@ -9,14 +9,15 @@ use Rattle.ml_term.specs.Patterns.{begins}
 use Rattle.ml_region.specs.Regions.{Region, items_at, keys_at, region_at, with_items}
 use Rattle.ml_region.specs.Changes.{IsCut, IsPut, items_below, items_beside}
 use Rattle.ml_region.specs.declared.item.Item.{Item}
-use Rattle.ml_region.proofs.Placed.{with_items_length, region_at_same, region_at_other}
+use Rattle.ml_region.proofs.PlacedRegions.{with_items_length, region_at_same, region_at_other}
 use Rattle.ml_split.specs.RegionSplits.{IsSplitFor}
 use Rattle.ml_split.specs.Splitting.{count_under}
-use Rattle.ml_split.proofs.Walking.{count_within}
+use Rattle.ml_split.proofs.SplitWalk.{count_within}
 use Rattle.ml_file.specs.Adding.{HasGrown, has_place, splits_first}
-use Rattle.ml_file.specs.Settled.{is_thin, AreSettled, HasThin, MakesNoneThin}
+use Rattle.ml_split.specs.RegionSplits.{is_thin}
+use Rattle.ml_file.specs.Settled.{AreSettled, HasThin, MakesNoneThin}
 use Rattle.ml_split.proofs.RegionSizes.{below_count, both_sizes, located, place_within}
-use Rattle.ml_file.proofs.Grown.{put_within}
+use Rattle.ml_file.proofs.GrownRegions.{put_within}
 
 -- ---- a region by itself
 
@@ -50,7 +51,13 @@ fuller_thin regions p items k h more thin =
 
 pub same_none_thin : (old new : List Region) → new ≡ old → MakesNoneThin old new
 same_none_thin old new e i l thin =
-    record { place = i; within = omega (arith, l, ap length e); prefix_is = ap (λ rs. (region_at rs i).prefix) (sym e); thin = subst (λ rs. is_thin (region_at rs i) ≡ true) e thin }
+    record {
+      place = i;
+      within = omega (arith, l, ap length e);
+      prefix_is = ap (λ rs. (region_at rs i).prefix) (sym e);
+      thin =
+          subst (λ rs. is_thin (region_at rs i) ≡ true) e thin;
+    }
 
 none_thin_through : (old middle new : List Region) → MakesNoneThin old middle → MakesNoneThin middle new → MakesNoneThin old new
 none_thin_through old middle new first second i l thin =
@@ -71,7 +78,8 @@ put_none_thin old item new put i l thin =
     let at : region_at new i ≡ region_at (with_items old r more) i = ap (λ rs. region_at rs i) put.same in
     let prefix : (region_at (with_items old r more) i).prefix ≡ (region_at old i).prefix =
     elim (cases_eq i r) [
-      | inl e ↦ ap (λ k. (region_at (with_items old r more) k).prefix) e ∙ ap (λ (q : Region). q.prefix) (region_at_same old r more h) ∙ ap (λ k. (region_at old k).prefix) (sym e)
+      | inl e ↦ ap (λ k. (region_at (with_items old r more) k).prefix) e ∙ ap (λ (q : Region). q.prefix) (region_at_same old r more h)
+          ∙ ap (λ k. (region_at old k).prefix) (sym e)
       | inr d ↦ ap (λ (q : Region). q.prefix) (region_at_other old r i more d)
     ] in
     record {
@@ -82,7 +90,8 @@ put_none_thin old item new put i l thin =
     }
 
 -- a region is cut with at least 8 items on each side
-cut_none_thin : (old : List Region) (i : ℕ) (p : List Bool) (middle : List Region) → i < length old → IsCut old i p middle → 8 ≤ length (items_below p (items_at old i))
+cut_none_thin : (old : List Region) (i : ℕ) (p : List Bool) (middle : List Region) → i < length old → IsCut old i p middle →
+    8 ≤ length (items_below p (items_at old i))
     → 8 ≤ length (items_beside p (items_at old i)) → MakesNoneThin old middle
 cut_none_thin old i p middle h cut low aside k l thin =
     let beside : List Item = items_beside p (items_at old i) in
@@ -110,7 +119,8 @@ cut_none_thin old i p middle h cut low aside k l thin =
     ]
 
 -- a region of 24 items is split for a key
-split_none_thin : (old : List Region) (i : ℕ) (key : List Bool) (middle : List Region) → i < length old → 24 ≤ length (items_at old i) → IsSplitFor old i key middle
+split_none_thin : (old : List Region) (i : ℕ) (key : List Bool) (middle : List Region) → i < length old → 24 ≤ length (items_at old i) →
+    IsSplitFor old i key middle
     → MakesNoneThin old middle
 split_none_thin old i key middle h full split =
     let p : List Bool = split.prefix in

@@ -9,16 +9,18 @@ use Rattle.ml_split.specs.RegionSplits.{IsSettled, goes_in, splits_again}
 use Rattle.ml_split.specs.Splitting.{IsFair}
 use Rattle.ml_split.proofs.RegionKeys.{one_parent}
 use Rattle.ml_file.specs.Files.{items_in}
-use Rattle.ml_file.specs.Settled.{is_thin, AreSettled, AreSettledBefore, HasSameItems, IsFirstThin, IsSettledThrough, at_rest, one_more}
-use Rattle.ml_file.proofs.Coming.{HasKeyOf, key_of_one}
-use Rattle.ml_file.proofs.Held.{item_in}
-use Rattle.ml_file.proofs.Settling.{Recut, goes_facts, recut_facts}
-use Rattle.ml_file.proofs.Taken.{all_of}
+use Rattle.ml_split.specs.RegionSplits.{is_thin}
+use Rattle.ml_file.specs.Settled.{AreSettled, AreSettledBefore, HasSameItems, IsFirstThin, IsSettledThrough, at_rest, one_more}
+use Rattle.ml_file.proofs.ComingItems.{HasKeyOf, key_of_one}
+use Rattle.ml_file.proofs.HeldItems.{item_in}
+use Rattle.ml_file.proofs.RegionSettling.{Recut, goes_facts, recut_facts}
+use Rattle.ml_file.proofs.TakenItems.{all_of}
 
 -- a thin region is not that of the empty prefix
 pub thin_nested : (regions : List Region) (i : ℕ) → IsWellPlaced regions → is_thin (region_at regions i) ≡ true → 0 < i
 thin_nested regions i well thin =
-    let some : 0 < length (region_at regions i).prefix = ltb-true 0 (length (region_at regions i).prefix) (and_parts (ltb 0 (length (region_at regions i).prefix)) (ltb (length (items_at regions i)) 8) thin).0 in
+    let some : 0 < length (region_at regions i).prefix = ltb-true 0 (length (region_at regions i).prefix)
+    (and_parts (ltb 0 (length (region_at regions i).prefix)) (ltb (length (items_at regions i)) 8) thin).0 in
     elim (cases_lt 0 i) [
       | inl l ↦ l
       | inr l ↦
@@ -27,19 +29,24 @@ thin_nested regions i well thin =
     ]
 
 pub thin_few : (regions : List Region) (i : ℕ) → is_thin (region_at regions i) ≡ true → length (items_at regions i) < 8
-thin_few regions i thin = ltb-true (length (items_at regions i)) 8 (and_parts (ltb 0 (length (region_at regions i).prefix)) (ltb (length (items_at regions i)) 8) thin).1
+thin_few regions i thin = ltb-true (length (items_at regions i)) 8
+    (and_parts (ltb 0 (length (region_at regions i).prefix)) (ltb (length (items_at regions i)) 8) thin).1
 
 -- every key has room
-keys_room : (regions : List Region) (room k : ℕ) → k < length regions → All (λ (x : Item). length x.key.bits ≤ room) (items_in regions) → All (λ (key : List Bool). length key ≤ room) (keys_at regions k)
+keys_room : (regions : List Region) (room k : ℕ) → k < length regions → All (λ (x : Item). length x.key.bits ≤ room) (items_in regions) →
+    All (λ (key : List Bool). length key ≤ room) (keys_at regions k)
 keys_room regions room k h roomy n d l =
     let key : List Bool = get_or (keys_at regions k) n d in
     let found : HasKeyOf (items_at regions k) key = key_of_one (items_at regions k) key (Contains-get_or (keys_at regions k) n d l) in
-    subst (λ x. length x ≤ room) found.key_is (All-contains (λ (x : Item). length x.key.bits ≤ room) (items_in regions) found.item roomy (item_in regions k found.item h found.among))
+    subst (λ x. length x ≤ room) found.key_is (All-contains (λ (x : Item). length x.key.bits ≤ room) (items_in regions) found.item roomy
+    (item_in regions k found.item h found.among))
 
-pub both_room : (regions : List Region) (room i p : ℕ) → i < length regions → p < length regions → All (λ (x : Item). length x.key.bits ≤ room) (items_in regions)
+pub both_room : (regions : List Region) (room i p : ℕ) → i < length regions → p < length regions →
+    All (λ (x : Item). length x.key.bits ≤ room) (items_in regions)
     → All (λ (key : List Bool). length key ≤ room) (keys_at regions i ++ keys_at regions p)
 both_room regions room i p h k roomy =
-    All-append (λ (key : List Bool). length key ≤ room) (keys_at regions i) (keys_at regions p) (keys_room regions room i h roomy) (keys_room regions room p k roomy)
+    All-append (λ (key : List Bool). length key ≤ room) (keys_at regions i) (keys_at regions p) (keys_room regions room i h roomy)
+    (keys_room regions room p k roomy)
 
 -- what is known after one step
 pub settled_facts : (old : List Region) (i : ℕ) (new : List Region) → IsWellPlaced old → i < length old → is_thin (region_at old i) ≡ true
@@ -72,12 +79,14 @@ pub record IsSettling (start : List Region) (room : ℕ) (regions : List Region)
   pub on : (end : List Region) → IsSettledThrough regions end → IsSettledThrough start end
 
 -- the first thin region was settled
-pub settling_on : (start : List Region) (room : ℕ) (old : List Region) (before from : ℕ) (new : List Region) (after i : ℕ) → IsSettling start room old before from → IsFirstThin old i
+pub settling_on : (start : List Region) (room : ℕ) (old : List Region) (before from : ℕ) (new : List Region) (after i : ℕ) →
+    IsSettling start room old before from → IsFirstThin old i
     → IsSettled old i new → Recut old i new → after ≡ before → IsSettling start room new after i
 settling_on start room old before from new after i was thin settled step e =
     record {
       few = step.few;
-      roomy = all_same (λ (x : Item). length x.key.bits ≤ after) old new step.same (subst (λ r. All (λ (x : Item). length x.key.bits ≤ r) (items_in old)) (sym e) was.roomy);
+      roomy = all_same (λ (x : Item). length x.key.bits ≤ after) old new step.same
+          (subst (λ r. All (λ (x : Item). length x.key.bits ≤ r) (items_in old)) (sym e) was.roomy);
       same = same_through start old new was.same step.same;
       room_is = e ∙ was.room_is;
       reached = step.within;

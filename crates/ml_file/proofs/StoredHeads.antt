@@ -57,7 +57,8 @@ clause_head_is f (compound g (tree h (tree b no_trees))) e = refl
 clause_head_is f (compound g (tree h (tree b (tree c ts)))) e = absurd (omega (arith, eqb-true (arity (tree h (tree b (tree c ts)))) 2 (and_parts _ _ e).1))
 
 -- a clause's term is valid, and so is what is said of its name and its head
-clause_parts : (d : Decl) (t : Tree) → is_stored_clause d t ≡ true → (is_valid t ≡ true) × ((is_of (codes ":-") 2 t ≡ true) × (is_of d.pred.name d.pred.arity (head_of t) ≡ true))
+clause_parts : (d : Decl) (t : Tree) → is_stored_clause d t ≡ true →
+    (is_valid t ≡ true) × ((is_of (codes ":-") 2 t ≡ true) × (is_of d.pred.name d.pred.arity (head_of t) ≡ true))
 clause_parts d t h =
     let front = and_parts _ _ (and_parts _ _ (and_parts _ _ (and_parts _ _ h).0).0).0 in
     let first = and_parts _ _ front.0 in
@@ -114,7 +115,9 @@ pub clause_part : (d : Decl) (f : List ℕ) (ts : List Term) (e : Term) → d.ki
     → seen (get_or ts 0 e) ≡ stored_head d.kind (compound f (trees_of (all_seen ts)))
 clause_part d f ts e is h =
     let t : Tree = compound f (trees_of (all_seen ts)) in
-    first_seen ts e (two_parts d f ts is h) ∙ sym (clause_head_is (codes ":-") t (clause_term_is d t (clause_from d t is h))) ∙ ap (λ k. stored_head k t) (sym is)
+    first_seen ts e (two_parts d f ts is h) ∙ sym (clause_head_is (codes ":-") t (clause_term_is d t (clause_from d t is h)))
+    ∙ ap (λ k. stored_head k t) (sym is)
 
-pub clause_part_valid : (d : Decl) (f : List ℕ) (ts : List Term) (e : Term) → d.kind ≡ Clauses → is_allowed d (compound f (trees_of (all_seen ts))) ≡ true → is_valid (seen (get_or ts 0 e)) ≡ true
+pub clause_part_valid : (d : Decl) (f : List ℕ) (ts : List Term) (e : Term) → d.kind ≡ Clauses → is_allowed d (compound f (trees_of (all_seen ts))) ≡ true →
+    is_valid (seen (get_or ts 0 e)) ≡ true
 clause_part_valid d f ts e is h = first_valid ts e (two_parts d f ts is h) (and_parts _ _ (allowed_valid d (compound f (trees_of (all_seen ts))) h)).1

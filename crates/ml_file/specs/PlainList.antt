@@ -1,4 +1,5 @@
--- The plain list of a file's items, in the order in which they are given. The code has nested pages, and sorts clauses where they are asked for.
+-- The plain list of a file's items, in the order in which they are given. The code has nested
+-- pages, and sorts clauses where they are asked for.
 use Rattle.std.specs.Prelude.{◌≡◌, ◌⊎◌, ◌↔◌, Bool, true, false, List, Contains}
 use Rattle.std.specs.List.{AllPairs}
 use Rattle.std.specs.declared.cmp.Ordering.{Ordering}

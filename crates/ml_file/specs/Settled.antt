@@ -1,14 +1,12 @@
--- When a file is settled, and what settling does: no region but that of the empty prefix has under 8 items. The code looks for the next thin region from the
--- place of the last one on. What a change does to thin regions is said of prefixes, since places move.
-use Rattle.std.specs.Prelude.{ℕ, ◌<◌, ◌≡◌, ◌↔◌, nat_lt, ◌&&◌, Bool, true, false, List, length, Contains}
+-- When a file is settled, and what settling does: no region but that of the empty prefix has under
+-- 8 items. The code looks for the next thin region from the place of the last one on. What a change
+-- does to thin regions is said of prefixes, since places move.
+use Rattle.std.specs.Prelude.{ℕ, ◌<◌, ◌≡◌, ◌↔◌, Bool, true, false, List, length}
+use Rattle.std.specs.Prelude.{Contains}
 use Rattle.ml_region.specs.Regions.{Region, region_at}
 use Rattle.ml_region.specs.declared.item.Item.{Item}
-use Rattle.ml_split.specs.RegionSplits.{IsSettled}
+use Rattle.ml_split.specs.RegionSplits.{IsSettled, is_thin}
 use Rattle.ml_file.specs.Files.{items_in}
-
--- whether a region of another prefix than the empty one has under 8 items
-abbrev pub is_thin : Region → Bool
-is_thin r = nat_lt 0 (length r.prefix) && nat_lt (length r.items) 8
 
 -- no region is thin
 abbrev pub AreSettled : List Region → Type 0
@@ -31,7 +29,8 @@ pub record IsFirstThin (regions : List Region) (i : ℕ) : Type 0 where
 -- a file was settled: as long as a region is thin, the first one goes into its parent
 pub data IsSettledThrough : List Region → List Region → Type 0 where
   at_rest : {regions : List Region} → AreSettled regions → IsSettledThrough regions regions
-  one_more : {old new : List Region} (middle : List Region) (i : ℕ) → IsFirstThin old i → IsSettled old i middle → IsSettledThrough middle new
+  one_more : {old new : List Region} (middle : List Region) (i : ℕ) → IsFirstThin old i →
+      IsSettled old i middle → IsSettledThrough middle new
       → IsSettledThrough old new
 
 -- a region of this prefix is there, and is thin
@@ -43,4 +42,5 @@ pub record HasThin (regions : List Region) (prefix : List Bool) : Type 0 where
 
 -- no region was made thin: of each that is thin now, the prefix was that of a thin region before
 abbrev pub MakesNoneThin : List Region → List Region → Type 0
-MakesNoneThin old new = (i : ℕ) → i < length new → is_thin (region_at new i) ≡ true → HasThin old (region_at new i).prefix
+MakesNoneThin old new = (i : ℕ) → i < length new → is_thin (region_at new i) ≡ true →
+    HasThin old (region_at new i).prefix

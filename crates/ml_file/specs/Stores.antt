@@ -1,5 +1,7 @@
--- What the files of a store hold. The code puts items into files one after another; the lists of the first db are made of all items at once.
-use Rattle.std.specs.Prelude.{ℕ, ◌+◌, ◌≡◌, ◌≢◌, ◌≤◌, ◌↔◌, true, false, Some, List, [], ◌∷◌, length, map, slice_get, Contains}
+-- What the files of a store hold. The code puts items into files one after another; the lists of
+-- the first db are made of all items at once.
+use Rattle.std.specs.Prelude.{ℕ, ◌+◌, ◌≡◌, ◌≢◌, ◌≤◌, ◌↔◌, true, false, Some, List, [], ◌∷◌, length}
+use Rattle.std.specs.Prelude.{map, slice_get, Contains}
 use Rattle.std.specs.List.{All, AllPairs}
 use Rattle.ml_key.specs.ItemKeys.{item_key}
 use Rattle.ml_region.specs.Regions.{empty_region}
@@ -17,7 +19,8 @@ use Rattle.ml_file.specs.Settled.{AreSettled}
 
 -- ---- a store
 
--- an item that was loaded: committed, not front, with place 0; a clause's storage number is its change
+-- an item that was loaded: committed, not front, with place 0; a clause's storage number is its
+-- change
 pub record IsLoadedItem (kind : Kind) (x : Item) : Type 0 where
   pub committed : x.committed ≡ true
   pub front : x.front ≡ false
@@ -29,15 +32,21 @@ abbrev pub terms_in : List Item → List Tree
 terms_in items = map (λ (x : Item). seen x.term) items
 
 -- what a file's item stands for in a list of the store
-abbrev pub listed : Item → ListItem
-listed x = record { id = record { place = at x.id.place; change = x.id.change }; term = seen x.term }
+abbrev pub list_item_of : Item → ListItem
+list_item_of x = record {
+  id = record { place = at x.id.place; change = x.id.change };
+  term =
+      seen x.term;
+}
 
--- whether a file's items in their order are those of a list; of tuples the terms alone are told, since nothing compares their ids
+-- whether a file's items in their order are those of a list; of tuples the terms alone are told,
+-- since nothing compares their ids
 abbrev pub AreListed : Kind → List Item → List ListItem → Type 0
 AreListed Relation items list = terms_in items ≡ terms list
-AreListed Clauses items list = map listed items ≡ list
+AreListed Clauses items list = map list_item_of items ≡ list
 
--- a settled file of a declaration that was loaded with a list: its plain list is that list, and each of its items was added by an insert
+-- a settled file of a declaration that was loaded with a list: its plain list is that list, and
+-- each of its items was added by an insert
 pub record IsLoadedFile (decl : Decl) (list : List ListItem) (file : File) : Type 0 where
   pub declared : file.decl ≡ decl
   pub items : List Item
@@ -47,10 +56,13 @@ pub record IsLoadedFile (decl : Decl) (list : List ListItem) (file : File) : Typ
   pub counted : file.added ≡ length items
   pub settled : AreSettled file.regions
 
--- the files of a store hold the lists of the first db: there is one for each declaration, in their order
-pub record IsLoaded (decls : List Decl) (entries : List (ℕ × Tree)) (files : List File) : Type 0 where
+-- the files of a store hold the lists of the first db: there is one for each declaration, in their
+-- order
+pub record IsLoaded (decls : List Decl) (entries : List (ℕ × Tree))
+    (files : List File) : Type 0 where
   pub count : length files ≡ length decls
-  pub each : (d : ℕ) (decl : Decl) (file : File) → slice_get decls d ≡ Some decl → slice_get files d ≡ Some file
+  pub each : (d : ℕ) (decl : Decl) (file : File) → slice_get decls d ≡ Some decl →
+      slice_get files d ≡ Some file
       → IsLoadedFile decl (list_at (first_db decls entries) d) file
 
 -- ---- files that are being loaded
@@ -75,10 +87,12 @@ AreFrom decl n (x ∷ xs) = IsNthItem decl n x × AreFrom decl (1 + n) xs
 
 -- whether items have the terms that came: of clauses each in its turn, of tuples each once
 abbrev pub HaveTerms : Kind → List Item → List Tree → Type 0
-HaveTerms Relation items ts = AllPairs (λ (a : Item) (b : Item). seen a.term ≢ seen b.term) items × ((t : Tree) → Contains (terms_in items) t ↔ Contains ts t)
+HaveTerms Relation items ts = AllPairs (λ (a : Item) (b : Item). seen a.term ≢ seen b.term) items
+    × ((t : Tree) → Contains (terms_in items) t ↔ Contains ts t)
 HaveTerms Clauses items ts = terms_in items ≡ ts
 
--- a file of a declaration to which terms came one after another, with the items that it added, in their turn
+-- a file of a declaration to which terms came one after another, with the items that it added, in
+-- their turn
 pub record HasTaken (decl : Decl) (ts : List Tree) (file : File) : Type 0 where
   pub declared : file.decl ≡ decl
   pub came : List Item
@@ -89,6 +103,8 @@ pub record HasTaken (decl : Decl) (ts : List Tree) (file : File) : Type 0 where
   pub few : length came ≤ length ts
 
 -- each declaration's file has taken the terms of its items
-pub record HaveTaken (decls : List Decl) (entries : List (ℕ × Tree)) (files : List File) : Type 0 where
+pub record HaveTaken (decls : List Decl) (entries : List (ℕ × Tree))
+    (files : List File) : Type 0 where
   pub count : length files ≡ length decls
-  pub each : (d : ℕ) (decl : Decl) (file : File) → slice_get decls d ≡ Some decl → slice_get files d ≡ Some file → HasTaken decl (terms_for d entries) file
+  pub each : (d : ℕ) (decl : Decl) (file : File) → slice_get decls d ≡ Some decl →
+      slice_get files d ≡ Some file → HasTaken decl (terms_for d entries) file

@@ -4,9 +4,16 @@ ghost use Rattle.ml_file.specs.Files.{IsAbsent, IsFile, IsHeld, IsRemoved};
 ghost use Rattle.ml_region.specs.Prefixes.{IsOwner};
 ghost use Rattle.ml_region.specs.Regions.{IsWellPlaced, empty_region, items_at, region_at};
 
+mod hits;
+mod insert;
+mod mark;
+mod put;
+mod settle_all;
+
 use ml_bits::{Bits, OutOfMemory};
 use ml_region::{Item, Regions, SortedDir};
 use ml_term::Decl;
+pub use put::Put;
 use std::alloc::Global;
 use std::marker::Model;
 
@@ -19,8 +26,9 @@ pub enum Took {
     Absent,
 }
 
-/// The items of one declaration. Contracts see the declaration, the regions with their items, the room that every prefix has, and how many inserts added
-/// an item. A region is named by its place in the order of prefixes, from 0.
+/// The items of one declaration. Contracts see the declaration, the regions with their items, the
+/// room that every prefix has, and how many inserts added an item. A region is named by its place
+/// in the order of prefixes, from 0.
 #[derive(Drop)]
 pub struct BangFile {
     pub(crate) decl: Decl,
@@ -38,7 +46,12 @@ impl Model for BangFile {
 
     ghost coded = { Prim.hlevel (codes, item.the_row.coded) };
 
-    ghost view = { λ f. record { decl = f.decl; regions = f.regions.regions; room = f.regions.room; added = f.added } };
+    ghost view = { λ f. record {
+      decl = f.decl;
+      regions = f.regions.regions;
+      room = f.regions.room;
+      added = f.added;
+    } };
 
     ghost invariant = { λ f. IsFile f.decl f.regions.regions f.regions.room };
 }
@@ -46,7 +59,8 @@ impl Model for BangFile {
 impl BangFile {
     /// A file without items: one region of the empty prefix.
     pub fn new(alloc: Global, decl: Decl) -> Result<BangFile, OutOfMemory>
-        ensures { IfOk result (λ file. file ≡ record { decl = decl; regions = empty_region ∷ []; room = 0; added = 0 }) }
+        ensures { IfOk result (λ file. file
+            ≡ record { decl = decl; regions = empty_region ∷ []; room = 0; added = 0 }) }
     {
         let dir = SortedDir::new(alloc)?;
         let regions = Regions::new(alloc, dir)?;
@@ -65,7 +79,8 @@ impl BangFile {
         &self.decl
     }
 
-    /// How many regions there are. They are well placed, no one has over 24 items, and each item is one of the declaration under its key.
+    /// How many regions there are. They are well placed, no one has over 24 items, and each item is
+    /// one of the declaration under its key.
     pub fn len(&self) -> usize
         ensures length { result ≡ length self.now.regions }
         ensures well_placed { IsWellPlaced self.now.regions }
@@ -109,12 +124,13 @@ impl BangFile {
 
     /// Takes the item that has a key out. It takes no memory, and settles nothing.
     pub fn remove(&mut self, key: &Bits) -> Took
-        ensures removed { result ≡ Took.Removed → IsRemoved self.old.regions key.now.bits self.new.regions }
+        ensures removed { result ≡ Took.Removed →
+            IsRemoved self.old.regions key.now.bits self.new.regions }
         ensures absent { result ≡ Took.Absent → IsAbsent self.old.regions key.now.bits }
         ensures unchanged { result ≡ Took.Absent → self.new ≡ self.old }
         ensures others { self.new ≡ record self.old { regions = self.new.regions } }
     {
-        let _regions = self.regions.len();
+        let _well_placed = self.regions.len();
         let Some(_item) = self.regions.take(key) else {
             return Took::Absent;
         };

@@ -6,7 +6,7 @@ use ml_region::{Id, Item};
 use ml_term::Kind;
 use std::cmp::Ordering;
 
-/// Ids by place, and then by number of change.
+// Ids by place, and then by number of change.
 fn id_order(a: Id, b: Id) -> Ordering
     ensures { result ≡ id_cmp a b }
 {
@@ -16,7 +16,7 @@ fn id_order(a: Id, b: Id) -> Ordering
     }
 }
 
-/// Ids first, and then storage numbers.
+// Ids first, and then storage numbers.
 fn back_order(a: &Item, b: &Item) -> Ordering
     ensures { result ≡ back_cmp a.now b.now }
 {
@@ -26,7 +26,7 @@ fn back_order(a: &Item, b: &Item) -> Ordering
     }
 }
 
-/// Later ids first, and then storage numbers.
+// Later ids first, and then storage numbers.
 fn front_order(a: &Item, b: &Item) -> Ordering
     ensures { result ≡ front_cmp a.now b.now }
 {
@@ -36,7 +36,8 @@ fn front_order(a: &Item, b: &Item) -> Ordering
     }
 }
 
-/// The order of two clauses: those that were put first come before all others, the latest of them first.
+// The order of two clauses: those that were put first come before all others, the latest of them
+// first.
 fn clause_order(a: &Item, b: &Item) -> Ordering
     ensures { result ≡ clause_cmp a.now b.now }
 {
@@ -48,7 +49,7 @@ fn clause_order(a: &Item, b: &Item) -> Ordering
     }
 }
 
-/// The order of two items: that of keys for a relation, and that of clauses for clauses.
+// The order of two items: that of keys for a relation, and that of clauses for clauses.
 pub(crate) fn item_order(kind: Kind, a: &Item, b: &Item) -> Ordering
     ensures { result ≡ item_cmp kind a.now b.now }
 {

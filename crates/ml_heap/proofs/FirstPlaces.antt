@@ -3,8 +3,8 @@ use Rattle.std.specs.Prelude.{◌≡◌, ◌≢◌, ℕ, ◌+◌, true, false, B
 use Rattle.std.proofs.Common.{inl, inr, refl, sym, ap, ◌∙◌, arith, length-append}
 use Rattle.std.proofs.lemmas.Bool.Decides.{eqb_tells}
 use Rattle.ml_term.specs.Tree.{has, firsts, without, place_in}
-use Rattle.ml_term.proofs.Distinct.{In, has_append}
-use Rattle.ml_term.proofs.Renaming.{in_firsts}
+use Rattle.ml_term.proofs.DistinctCounts.{In, has_append}
+use Rattle.ml_term.proofs.RenamedTerms.{in_firsts}
 
 without_append : (n : ℕ) (xs ys : List ℕ) → without n (xs ++ ys) ≡ without n xs ++ without n ys
 without_append n [] ys = refl
@@ -41,7 +41,8 @@ new_last [] n h = refl
 new_last (x ∷ xs) n h = elim (eqb_tells x n) [
   | inl q ↦ absurd (cc (rw q.0 at h))
   | inr q ↦
-      ap (λ zs. x ∷ zs) (ap (without x) (new_last xs n (rw q.0 at h)) ∙ (without_append x (firsts xs) (n ∷ []) ∙ ap (λ zs. without x (firsts xs) ++ zs) (kept q.1)))
+      ap (λ zs. x ∷ zs) (ap (without x) (new_last xs n (rw q.0 at h))
+      ∙ (without_append x (firsts xs) (n ∷ []) ∙ ap (λ zs. without x (firsts xs) ++ zs) (kept q.1)))
 ]
   where
     kept : (x ≢ n) → without x (n ∷ []) ≡ n ∷ []
@@ -83,7 +84,8 @@ known_adds_none (x ∷ xs) n h = elim (eqb_tells x n) [
   | inr q ↦ ap (λ zs. x ∷ without x zs) (known_adds_none xs n (rw q.0 at h))
 ]
   where
-    first : x ≡ n → (has n xs ≡ true → firsts (xs ++ n ∷ []) ≡ firsts xs) → (b : Bool) → has n xs ≡ b → without x (firsts (xs ++ n ∷ [])) ≡ without x (firsts xs)
+    first : x ≡ n → (has n xs ≡ true → firsts (xs ++ n ∷ []) ≡ firsts xs) → (b : Bool) → has n xs ≡ b →
+        without x (firsts (xs ++ n ∷ [])) ≡ without x (firsts xs)
     first p k true e = ap (without x) (k e)
     first p k false e = ap (without x) (new_last xs n e)
         ∙ (without_append x (firsts xs) (n ∷ []) ∙ (ap (λ zs. without x (firsts xs) ++ zs) gone ∙ no_more (without x (firsts xs))))

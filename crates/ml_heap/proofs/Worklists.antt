@@ -4,11 +4,11 @@ use Rattle.std.specs.List.{zip}
 use Rattle.std.proofs.Common.{refl, sym, ap, ◌∙◌, subst, arith, append_assoc}
 use Rattle.std.proofs.lemmas.List.{reverse-append, length-map}
 use Rattle.ml_term.specs.Tree.{Tree, variable, integer, atom, compound, occurs}
-use Rattle.ml_term.specs.Unify.{Equation, binding, step, split}
-use Rattle.ml_heap.specs.Changes.{Changes, tree_in, trees, stands_for, bound_in, number}
-use Rattle.ml_heap.specs.Equations.{stacked, left_by, AreBelow, Turned, sides_split, variable_replaced}
-use Rattle.ml_heap.specs.Rules.{IsToBeBound, AreInside, pairs}
-use Rattle.ml_heap.proofs.Solving.{one_more, all_replaced}
+use Rattle.ml_term.specs.Unify.{Equation, binding, step, decompose}
+use Rattle.ml_heap.specs.Changes.{Changes, tree_in, trees, stands_for, bind_in, number}
+use Rattle.ml_heap.specs.inside.Equations.{stack_equations, equations_left, AreBelow, IsTurn, sides_split, variable_replaced}
+use Rattle.ml_heap.specs.inside.Rules.{IsToBeBound, AreInside, pairs}
+use Rattle.ml_heap.proofs.EquationWorklists.{one_more, all_replaced}
 
 abbrev pub pair : ℕ → ℕ → ℕ × ℕ
 pair q r = (q, r)
@@ -28,7 +28,8 @@ pub below_back : (n : ℕ) (ps qs : List (ℕ × ℕ)) → AreBelow n (ps ++ qs)
 below_back n [] qs a = a
 below_back n (p ∷ ps) qs a = below_back n ps qs a.2
 
-below_pairs : (n : ℕ) (qs rs : List ℕ) → ((i : ℕ) → i < length qs → get_or qs i 0 < n) → ((i : ℕ) → i < length rs → get_or rs i 0 < n) → AreBelow n (reverse (zip qs rs))
+below_pairs : (n : ℕ) (qs rs : List ℕ) → ((i : ℕ) → i < length qs → get_or qs i 0 < n) → ((i : ℕ) → i < length rs → get_or rs i 0 < n) →
+    AreBelow n (reverse (zip qs rs))
 below_pairs n [] rs a b = tt
 below_pairs n (q ∷ qs) [] a b = tt
 below_pairs n (q ∷ qs) (r ∷ rs) a b =
@@ -38,39 +39,40 @@ below_pairs n (q ∷ qs) (r ∷ rs) a b =
 
 -- pairs that are put last are the first equations
 pairs_first : (ts : List Tree) (es : List Equation) (ps : List (ℕ × ℕ)) (qs rs : List ℕ)
-    → stacked ts es (ps ++ reverse (zip qs rs)) ≡ zip (map (tree_in ts) qs) (map (tree_in ts) rs) ++ stacked ts es ps
-pairs_first ts es ps [] rs = ap (stacked ts es) (no_more ps)
+    → stack_equations ts es (ps ++ reverse (zip qs rs)) ≡ zip (map (tree_in ts) qs) (map (tree_in ts) rs) ++ stack_equations ts es ps
+pairs_first ts es ps [] rs = ap (stack_equations ts es) (no_more ps)
   where
     no_more : (ps : List (ℕ × ℕ)) → ps ++ [] ≡ ps
     no_more [] = refl
     no_more (p ∷ ps) = ap (λ zs. p ∷ zs) (no_more ps)
-pairs_first ts es ps (q ∷ qs) [] = ap (stacked ts es) (no_more ps)
+pairs_first ts es ps (q ∷ qs) [] = ap (stack_equations ts es) (no_more ps)
   where
     no_more : (ps : List (ℕ × ℕ)) → ps ++ [] ≡ ps
     no_more [] = refl
     no_more (p ∷ ps) = ap (λ zs. p ∷ zs) (no_more ps)
 pairs_first ts es ps (q ∷ qs) (r ∷ rs) =
-    ap (λ zs. stacked ts es (ps ++ zs)) (turned q r (zip qs rs))
-    ∙ (ap (stacked ts es) (sym (append_assoc ps (reverse (zip qs rs)) (pair q r ∷ [])))
+    ap (λ zs. stack_equations ts es (ps ++ zs)) (turned q r (zip qs rs))
+    ∙ (ap (stack_equations ts es) (sym (append_assoc ps (reverse (zip qs rs)) (pair q r ∷ [])))
     ∙ (one_more ts es (ps ++ reverse (zip qs rs)) (q, r) ∙ ap (λ fs. (tree_in ts q, tree_in ts r) ∷ fs) (pairs_first ts es ps qs rs)))
 
 -- the arguments' pairs are put last
-module _ (h : Changes) (t u : Tree) (qs rs : List ℕ) (s : step t u ≡ split (pairs h qs rs)) (ps ps' : List (ℕ × ℕ)) (e : ps' ≡ ps ++ reverse (zip qs rs)) where
-  pub splits : Turned (trees h) t u (left_by (trees h) ps) (trees h) (left_by (trees h) ps')
-  splits = sides_split (pairs h qs rs) s refl (ap (left_by (trees h)) e ∙ pairs_first (trees h) [] ps qs rs)
+module _ (h : Changes) (t u : Tree) (qs rs : List ℕ) (s : step t u ≡ decompose (pairs h qs rs)) (ps ps' : List (ℕ × ℕ))
+    (e : ps' ≡ ps ++ reverse (zip qs rs)) where
+  pub splits : IsTurn (trees h) t u (equations_left (trees h) ps) (trees h) (equations_left (trees h) ps')
+  splits = sides_split (pairs h qs rs) s refl (ap (equations_left (trees h)) e ∙ pairs_first (trees h) [] ps qs rs)
 
   pub stay_below : (n : ℕ) → AreBelow n ps → ((i : ℕ) → i < length qs → get_or qs i 0 < n) → ((i : ℕ) → i < length rs → get_or rs i 0 < n) → AreBelow n ps'
   stay_below n a b c = rw e (below_append n ps (reverse (zip qs rs)) a (below_pairs n qs rs b c))
 
 -- the variable is bound
-pub binds : (v w t u : Tree) (ts ts' : List Tree) (ps : List (ℕ × ℕ)) → IsToBeBound v w t u → occurs (number v) w ≡ false → ts' ≡ bound_in v w ts
-    → Turned ts t u (left_by ts ps) ts' (left_by ts' ps)
-binds (variable n) w t u ts ts' ps b o e = variable_replaced n w (b.1 o) e (ap (λ x. left_by x ps) e ∙ all_replaced (binding n w) ts [] ps)
+pub binds : (v w t u : Tree) (ts ts' : List Tree) (ps : List (ℕ × ℕ)) → IsToBeBound v w t u → occurs (number v) w ≡ false → ts' ≡ bind_in v w ts
+    → IsTurn ts t u (equations_left ts ps) ts' (equations_left ts' ps)
+binds (variable n) w t u ts ts' ps b o e = variable_replaced n w (b.1 o) e (ap (λ x. equations_left x ps) e ∙ all_replaced (binding n w) ts [] ps)
 binds (integer z) w t u ts ts' ps b o e = absurd b
 binds (atom f) w t u ts ts' ps b o e = absurd b
 binds (compound f us) w t u ts ts' ps b o e = absurd b
 
-pub as_many_trees : (v w : Tree) (ts : List Tree) → length (bound_in v w ts) ≡ length ts
+pub as_many_trees : (v w : Tree) (ts : List Tree) → length (bind_in v w ts) ≡ length ts
 as_many_trees (variable n) w ts = length-map ts _
 as_many_trees (integer z) w ts = refl
 as_many_trees (atom f) w ts = refl
@@ -78,13 +80,13 @@ as_many_trees (compound f us) w ts = refl
 
 -- the same of equal trees
 pub turned_as : (t t' u u' : Tree) (ts : List Tree) (es : List Equation) (ts' : List Tree) (es' : List Equation) → t ≡ t' → u ≡ u'
-    → Turned ts t u es ts' es' → Turned ts t' u' es ts' es'
-turned_as t t' u u' ts es ts' es' e k r = subst (λ x. Turned ts t' x es ts' es') k (subst (λ x. Turned ts x u es ts' es') e r)
+    → IsTurn ts t u es ts' es' → IsTurn ts t' u' es ts' es'
+turned_as t t' u u' ts es ts' es' e k r = subst (λ x. IsTurn ts t' x es ts' es') k (subst (λ x. IsTurn ts x u es ts' es') e r)
 
 -- the pair that is taken is the first equation
 module _ (left rest : List (ℕ × ℕ)) (a b : ℕ) (e : left ≡ rest ++ pair a b ∷ []) where
-  pub taken : (ts : List Tree) → left_by ts left ≡ (tree_in ts a, tree_in ts b) ∷ left_by ts rest
-  taken ts = ap (left_by ts) e ∙ one_more ts [] rest (a, b)
+  pub taken : (ts : List Tree) → equations_left ts left ≡ (tree_in ts a, tree_in ts b) ∷ equations_left ts rest
+  taken ts = ap (equations_left ts) e ∙ one_more ts [] rest (a, b)
 
   module _ (n : ℕ) (k : AreBelow n left) where
     pub first_below : a < n

@@ -1,7 +1,5 @@
 pub mod Changes
-pub mod Layout
+pub mod Carries
 pub mod Looks
-pub mod Equations
-pub mod Rules
-pub mod Walks
 pub mod Storing
+pub mod inside

@@ -12,13 +12,17 @@ pub enum Cell {
     Int(i64),
     /// An atom.
     Atom(Name),
-    /// A compound of a name and the places of its arguments' cells, and whether it was known to be ground when it was made.
+    /// A compound of a name and the places of its arguments' cells, and whether it is known to be
+    /// ground.
     Cmp(Name, ArgsOf<usize>, bool),
 }
 
-/// One step: a cell was made, or the variable at the first place was bound to the cell at the second.
+/// One step: a cell was made, the variable at the first place was bound to the cell at the second,
+/// so many numbers of variables were left out, or the compound at a place was marked as ground.
 #[derive(Clone, Copy)]
 pub enum Step {
     Made,
     Binding(usize, usize),
+    LeftOut(u32),
+    Ground(usize),
 }

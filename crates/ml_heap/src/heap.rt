@@ -1,21 +1,25 @@
 //! A heap, its marks and its constructors.
-ghost use Rattle.std.specs.Prelude.{◌≡◌, ◌+◌, ◌-◌, ◌<◌, ◌≤◌, ◌∷◌, [], ◌++◌, ℕ, length, drop, map, IfOk, OnOk, OnErr, IsTrue, ◌↔◌, slice_index};
+ghost use Rattle.std.specs.Prelude.{◌≡◌, ◌+◌, ◌-◌, ◌<◌, ◌≤◌, ◌∷◌, [], ◌++◌, ℕ, length, drop, map};
+ghost use Rattle.std.specs.Prelude.{IfOk, OnOk, OnErr, IsTrue, ◌↔◌, slice_index};
 ghost use Rattle.ml_term.specs.Tree.{variable, integer, atom, compound, trees_of};
 ghost use Rattle.ml_term.specs.Valid.{is_in_range, is_valid};
 ghost use Rattle.ml_heap.specs.declared.cell.Step.TheVariants.{Made};
-ghost use Rattle.ml_heap.specs.Changes.{Changes, trees, cell_count, variable_count, stands_for, heap_of_mark, KeepsMarks, HasOneMore, MayBeBound, bound_in, IsVariable, number, arguments_of, tree_in};
+ghost use Rattle.ml_heap.specs.Changes.{Changes, trees, cell_count, variable_count, stands_for};
+ghost use Rattle.ml_heap.specs.Changes.{heap_of_mark, KeepsMarks, HasOneMore, MayBeBound, bind_in};
+ghost use Rattle.ml_heap.specs.Changes.{IsVariable, number, arguments_of, tree_in};
 ghost use Rattle.ml_heap.specs.Looks.{Shows, Tells};
 
 use crate::cell::{Cell, Step};
-use crate::links::{are_ground, end_of, places_of, undo_step};
+use crate::links::{are_ground, end_of, is_ground_unmarked, places_of, set_mark, undo_step};
 use crate::look::Look;
 use crate::place::{Mark, Ref};
 use ml_term::{ArgsOf, Name};
 use std::alloc::{AllocError, Global};
 use std::marker::Model;
 
-/// Cells that stand for terms, and the trail of what was made and bound. Contracts see the list of these changes, the latest first:
-/// it says which tree each cell stands for, how many variables were created, and what the heap of each earlier mark is.
+/// Cells that stand for terms, and the trail of what was made and bound. Contracts see the list of
+/// these changes, the latest first: it says which tree each cell stands for, how many variables
+/// were created, and what the heap of each earlier mark is.
 #[derive(Drop)]
 pub struct Heap {
     alloc: Global,
@@ -29,7 +33,7 @@ impl Model for Heap {
 
     ghost Value = { Changes };
 
-    ghost use Rattle.ml_heap.specs.Layout.{changes_of, IsKept};
+    ghost use Rattle.ml_heap.specs.inside.Layout.{changes_of, IsKept};
 
     ghost view = { λ h. changes_of h.steps.items h.cells.items };
 
@@ -58,7 +62,8 @@ impl Heap {
 
     /// An unbound variable that is younger than all others.
     pub fn new_var(&mut self) -> Result<Ref, AllocError>
-        ensures made { IfOk result (λ r. HasOneMore self.old self.new r (variable (variable_count self.old))) }
+        ensures made { IfOk result (λ r.
+            HasOneMore self.old self.new r (variable (variable_count self.old))) }
         ensures counted { IfOk result (λ r. variable_count self.new ≡ variable_count self.old + 1) }
         ensures refused { OnErr result (self.new ≡ self.old) }
     {
@@ -75,7 +80,8 @@ impl Heap {
         Ok(at)
     }
 
-    /// A cell that stands for an integer from -2305843009213693952 to 2305843009213693951. All other cells stay.
+    /// A cell that stands for an integer from -2305843009213693952 to 2305843009213693951. All
+    /// other cells stay.
     pub fn new_int(&mut self, v: i64) -> Result<Ref, AllocError>
         requires { IsTrue (is_in_range v) }
         ensures made { IfOk result (λ r. HasOneMore self.old self.new r (integer v)) }
@@ -99,19 +105,23 @@ impl Heap {
         Ok(at)
     }
 
-    /// A cell that stands for a compound of a name and of what its arguments' cells stand for, 1 to 255 of them. All other cells stay.
+    /// A cell that stands for a compound of a name and of what its arguments' cells stand for, 1 to
+    /// 255 of them. All other cells stay.
     pub fn new_cmp(&mut self, name: &Name, args: &[Ref]) -> Result<Ref, AllocError>
         requires low { 1 ≤ length args.now }
         requires high { length args.now ≤ 255 }
-        requires inside { (i : ℕ) → i < length args.now → slice_index args.now i < cell_count self.old }
-        ensures made { IfOk result (λ r. HasOneMore self.old self.new r (compound name.now (trees_of (map (stands_for self.old) args.now)))) }
+        requires inside { (i : ℕ) → i < length args.now →
+            slice_index args.now i < cell_count self.old }
+        ensures made { IfOk result (λ r.
+            HasOneMore self.old self.new r
+            (compound name.now (trees_of (map (stands_for self.old) args.now)))) }
         ensures counted { variable_count self.new ≡ variable_count self.old }
         ensures refused { OnErr result (self.new ≡ self.old) }
     {
         let at = Ref::at(self.cells.len());
-        let ground = are_ground(&self.cells, args);
-        let name = name.copy_of(self.alloc)?;
         let places = places_of(self.alloc, args)?;
+        let ground = are_ground(&self.cells, places.as_slice());
+        let name = name.copy_of(self.alloc)?;
         let cell = Cell::Cmp(name, ArgsOf::new(places), ground);
         push(&mut self.cells, &mut self.steps, cell)?;
         Ok(at)
@@ -138,7 +148,8 @@ impl Heap {
         requires inside { at < cell_count self.now }
         requires compound { i < length (arguments_of (stands_for self.now at)) }
         ensures inside { result < cell_count self.now }
-        ensures argument { stands_for self.now result ≡ tree_in (arguments_of (stands_for self.now at)) i }
+        ensures argument { stands_for self.now result
+            ≡ tree_in (arguments_of (stands_for self.now at)) i }
     {
         let end = end_of(&self.cells, at.place());
         match &self.cells[end] {
@@ -147,7 +158,7 @@ impl Heap {
         }
     }
 
-    /// The cell at the end of a cell's bindings, by its name and itself. It takes no memory.
+    // The cell at the end of a cell's bindings, by its name and itself. It takes no memory.
     pub(crate) fn end_at(&self, at: Ref) -> (Ref, &Cell)
         requires { at < cell_count self.now }
         ensures inside { result.0 < cell_count self.now }
@@ -160,12 +171,12 @@ impl Heap {
     }
 
     /// The allocator that the heap was made with.
-    pub(crate) fn allocator(&self) -> Global {
+    pub fn allocator(&self) -> Global {
         self.alloc
     }
 
     /// The number of an unbound variable. It takes no memory.
-    pub(crate) fn number_at(&self, at: Ref) -> u32
+    pub fn number_at(&self, at: Ref) -> u32
         requires inside { at < cell_count self.now }
         requires unbound { IsVariable (stands_for self.now at) }
         ensures { result ≡ number (stands_for self.now at) }
@@ -177,24 +188,28 @@ impl Heap {
         }
     }
 
-    /// Whether the variable of the first cell was created before that of the second. It takes no memory.
+    /// Whether the variable of the first cell was created before that of the second. It takes no
+    /// memory.
     pub fn is_older(&self, a: Ref, b: Ref) -> bool
         requires a_inside { a < cell_count self.now }
         requires b_inside { b < cell_count self.now }
         requires a_unbound { IsVariable (stands_for self.now a) }
         requires b_unbound { IsVariable (stands_for self.now b) }
-        ensures { IsTrue result ↔ (number (stands_for self.now a) < number (stands_for self.now b)) }
+        ensures { IsTrue result ↔ (number (stands_for self.now a)
+            < number (stands_for self.now b)) }
     {
         self.number_at(a) < self.number_at(b)
     }
 
-    /// Binds an unbound variable that doesn't occur in the other term, and is the younger if that is a variable: it is replaced in every tree.
+    /// Binds an unbound variable that doesn't occur in the other term, and is the younger if that
+    /// is a variable: it is replaced in every tree.
     /// After a refusal the heap is as it was.
     pub fn bind(&mut self, var: Ref, to: Ref) -> Result<(), AllocError>
         requires var_inside { var < cell_count self.old }
         requires to_inside { to < cell_count self.old }
         requires free { MayBeBound (stands_for self.old var) (stands_for self.old to) }
-        ensures bound { OnOk result (trees self.new ≡ bound_in (stands_for self.old var) (stands_for self.old to) (trees self.old)) }
+        ensures bound { OnOk result (trees self.new
+            ≡ bind_in (stands_for self.old var) (stands_for self.old to) (trees self.old)) }
         ensures counted { variable_count self.new ≡ variable_count self.old }
         ensures marks { KeepsMarks self.old self.new }
         ensures refused { OnErr result (self.new ≡ self.old) }
@@ -209,6 +224,43 @@ impl Heap {
         Ok(())
     }
 
+    /// How many variables were created: the number of the next one. It takes no memory.
+    pub fn count(&self) -> u32
+        ensures { result ≡ variable_count self.now }
+    {
+        self.created
+    }
+
+    /// Leaves out so many numbers of variables, as if that many had been created. All cells stay.
+    /// After a refusal, for want of memory or of numbers, the heap is as it was.
+    pub fn leave_out(&mut self, count: u32) -> Result<(), AllocError>
+        ensures trees { trees self.new ≡ trees self.old }
+        ensures counted { OnOk result (variable_count self.new ≡ variable_count self.old + count) }
+        ensures marks { KeepsMarks self.old self.new }
+        ensures refused { OnErr result (self.new ≡ self.old) }
+    {
+        let Some(created) = self.created.checked_add(count) else {
+            return Err(AllocError);
+        };
+        self.steps.push(Step::LeftOut(count))?;
+        self.created = created;
+        Ok(())
+    }
+
+    // Marks a compound as ground where its arguments are known to be. Every tree stays.
+    pub(crate) fn note_ground(&mut self, at: usize) -> Result<(), AllocError>
+        requires { at < cell_count self.old }
+        ensures trees { trees self.new ≡ trees self.old }
+        ensures counted { variable_count self.new ≡ variable_count self.old }
+        ensures marks { KeepsMarks self.old self.new }
+    {
+        if is_ground_unmarked(&self.cells, at) {
+            self.steps.push(Step::Ground(at))?;
+            set_mark(&mut self.cells, at, true);
+        }
+        Ok(())
+    }
+
     /// The heap as it was at the mark. No later undo may have gone below it. It takes no memory.
     pub fn undo_to(&mut self, m: Mark)
         requires { m ≤ length self.old }
@@ -219,18 +271,16 @@ impl Heap {
         }
     }
 
-    /// Undoes the latest change.
+    // Undoes the latest change.
     fn undo_one(&mut self)
         requires { 0 < length self.old }
         ensures { self.new ≡ drop 1 self.old }
     {
-        if undo_step(&mut self.steps, &mut self.cells) {
-            self.created -= 1;
-        }
+        self.created -= undo_step(&mut self.steps, &mut self.cells);
     }
 }
 
-/// Puts a cell last, and the step that made it. After a refusal both vectors have what they had.
+// Puts a cell last, and the step that made it. After a refusal both vectors have what they had.
 fn push(cells: &mut Vec<Cell>, steps: &mut Vec<Step>, cell: Cell) -> Result<(), AllocError>
     ensures made { OnOk result (cells.new.items ≡ cells.old.items ++ cell ∷ []) }
     ensures step { OnOk result (steps.new.items ≡ steps.old.items ++ Made ∷ []) }

@@ -6,18 +6,18 @@ use std::collections::BTreeMap;
 
 /// The cells of variables, by the variables' numbers.
 #[derive(Drop)]
-pub struct Met {
+pub struct MetVariables {
     cells: BTreeMap<u32, usize, Global>,
 }
 
-impl Met {
+impl MetVariables {
     ghost use Rattle.ml_heap.specs.Storing.{cell_of};
 
     /// No variables.
-    pub fn new(alloc: Global) -> Met
+    pub fn new(alloc: Global) -> MetVariables
         ensures { (n : ℕ) → cell_of result n ≡ None }
     {
-        Met {
+        MetVariables {
             cells: BTreeMap::new(alloc),
         }
     }
@@ -31,7 +31,8 @@ impl Met {
 
     /// Adds a variable with its cell.
     pub fn add(&mut self, n: u32, at: usize) -> Result<(), AllocError>
-        ensures { OnOk result ((k : ℕ) → cell_of self.new k ≡ (if n == k then Some at else cell_of self.old k)) }
+        ensures { OnOk result ((k : ℕ) →
+            cell_of self.new k ≡ (if n == k then Some at else cell_of self.old k)) }
     {
         self.cells.insert(n, at)?;
         Ok(())

@@ -36,14 +36,14 @@ impl Model for Mark {
 ghost use Rattle.std.specs.Prelude.{◌≡◌};
 
 impl Ref {
-    /// The cell at a place.
+    // The cell at a place.
     pub(crate) fn at(place: usize) -> Ref
         ensures { result ≡ place }
     {
         Ref { place }
     }
 
-    /// The place of the cell.
+    // The place of the cell.
     pub(crate) fn place(&self) -> usize
         ensures { result ≡ self.now }
     {
@@ -52,14 +52,14 @@ impl Ref {
 }
 
 impl Mark {
-    /// The moment after a number of steps.
+    // The moment after a number of steps.
     pub(crate) fn after(steps: usize) -> Mark
         ensures { result ≡ steps }
     {
         Mark { steps }
     }
 
-    /// The number of steps before the moment.
+    // The number of steps before the moment.
     pub(crate) fn steps(&self) -> usize
         ensures { result ≡ self.now }
     {

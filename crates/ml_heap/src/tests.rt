@@ -8,36 +8,36 @@ use std::alloc::{AllocError, Global};
 use std::cmp::Ordering;
 use std::test::Fail;
 
-/// The atom `a`.
+// The atom `a`.
 fn a(alloc: Global) -> Result<Term, AllocError> {
     Ok(Term::Atom(Name::new(alloc, b"a")?))
 }
 
-/// The atom `b`.
+// The atom `b`.
 fn b(alloc: Global) -> Result<Term, AllocError> {
     Ok(Term::Atom(Name::new(alloc, b"b")?))
 }
 
-/// The compound of one name and two arguments.
+// The compound of one name and two arguments.
 fn two(alloc: Global, t: Term, u: Term) -> Result<Term, AllocError> {
     let name = Name::new(alloc, b"f")?;
     Ok(Term::Cmp(name, Args::new(vec![in alloc; t, u]?)))
 }
 
-/// The compound of one name and one argument.
+// The compound of one name and one argument.
 fn one(alloc: Global, t: Term) -> Result<Term, AllocError> {
     let name = Name::new(alloc, b"s")?;
     Ok(Term::Cmp(name, Args::new(vec![in alloc; t]?)))
 }
 
-/// `f(f(T, b), f(a, U))`.
+// `f(f(T, b), f(a, U))`.
 fn worked(alloc: Global, t: Term, u: Term) -> Result<Term, AllocError> {
     let left = two(alloc, t, b(alloc)?)?;
     let right = two(alloc, a(alloc)?, u)?;
     two(alloc, left, right)
 }
 
-/// The compound of two arguments after these were unified, if they have a unifier.
+// The compound of two arguments after these were unified, if they have a unifier.
 fn unified(alloc: Global, pair: &Term) -> Result<Option<Term>, AllocError> {
     if !is_valid(pair) {
         return Ok(None);
@@ -54,7 +54,7 @@ fn unified(alloc: Global, pair: &Term) -> Result<Option<Term>, AllocError> {
     Ok(heap.tree_at(at).ok())
 }
 
-/// Whether a term was had, and is the one that was wanted.
+// Whether a term was had, and is the one that was wanted.
 fn is(had: &Option<Term>, wanted: &Term) -> bool {
     match had {
         Some(term) => compare(term, wanted) == Ordering::Equal,
@@ -92,7 +92,7 @@ fn the_younger_of_two_variables_is_replaced_by_the_older(rt: HostRuntime) -> Res
     Ok(())
 }
 
-/// A term of so many nodes, each the only argument of the one before.
+// A term of so many nodes, each the only argument of the one before.
 fn deep(alloc: Global, nodes: u32) -> Result<Term, AllocError> {
     let mut term = Term::Int(0);
     for _ in 1..nodes {
@@ -101,7 +101,7 @@ fn deep(alloc: Global, nodes: u32) -> Result<Term, AllocError> {
     Ok(term)
 }
 
-/// What is had of a term that was stored.
+// What is had of a term that was stored.
 fn stored(alloc: Global, term: &Term) -> Result<Result<Term, TreeStop>, AllocError> {
     let mut heap = Heap::new(alloc);
     let _older = heap.new_var()?;
@@ -133,7 +133,7 @@ fn a_term_of_4096_nodes_is_taken_out_and_a_larger_one_is_not(rt: HostRuntime) ->
     Ok(())
 }
 
-/// A term of two arguments that are one cell, so many times over.
+// A term of two arguments that are one cell, so many times over.
 fn doubled(alloc: Global, heap: &mut Heap, times: u32) -> Result<Ref, AllocError>
     ensures { IfOk result (λ r. r < cell_count heap.new) }
 {
@@ -156,7 +156,7 @@ fn a_shared_term_is_too_large_by_its_nodes(rt: HostRuntime) -> Result<(), Fail> 
     Ok(())
 }
 
-/// A list of so many variables.
+// A list of so many variables.
 fn variables(alloc: Global, heap: &mut Heap, count: u32) -> Result<Ref, AllocError>
     ensures { IfOk result (λ r. r < cell_count heap.new) }
 {

@@ -1,19 +1,20 @@
-//! Unification of the terms of two cells, by the rules for equations of trees. Pairs of cells wait on a worklist, the first
-//! equation last, so that no long list needs a deep recursion.
-ghost use Rattle.std.specs.Prelude.{◌≡◌, ◌<◌, ◌++◌, true, false, length, map, reverse, Some, IfOk, OnOk, IsTrue};
+//! Unification of the terms of two cells, by the rules for equations of trees. Pairs of cells wait
+//! on a worklist, the first equation last, so that no long list needs a deep recursion.
+ghost use Rattle.std.specs.Prelude.{◌≡◌, ◌<◌, ◌++◌, true, false, length, map, reverse, Some, IfOk};
+ghost use Rattle.std.specs.Prelude.{OnOk, IsTrue};
 ghost use Rattle.std.specs.Option.{is_some};
 ghost use Rattle.std.specs.List.{zip};
-ghost use Rattle.ml_term.specs.Unify.{Map, unifier, mgu, applied, step, clash};
+ghost use Rattle.ml_term.specs.Unify.{Map, unifier, mgu, apply, step, clash};
 ghost use Rattle.ml_heap.specs.Changes.{trees, cell_count, variable_count, stands_for, KeepsMarks};
-ghost use Rattle.ml_heap.specs.Equations.{left_by, AreBelow, Turned};
-ghost use Rattle.ml_heap.specs.Rules.{Applies};
+ghost use Rattle.ml_heap.specs.inside.Equations.{equations_left, AreBelow, IsTurn};
+ghost use Rattle.ml_heap.specs.inside.Rules.{Applies};
 
 use crate::cell::Cell;
 use crate::heap::Heap;
 use crate::place::Ref;
 use std::alloc::AllocError;
 
-/// What is to be done with the equation of two cells.
+// What is to be done with the equation of two cells.
 enum Rule<'a> {
     /// Both sides are equal: nothing.
     Same,
@@ -26,15 +27,18 @@ enum Rule<'a> {
 }
 
 impl Heap {
-    /// Makes the terms of two cells equal by their most general unifier, which replaces variables in every tree: of two variables
-    /// the younger by the older. `Ok(true)` exactly where there is one. After `Ok(false)` and where memory was wanting some bindings
-    /// may have been made, but no cell; every mark still has its heap, so undoing to one gives it back.
+    /// Makes the terms of two cells equal by their most general unifier, which replaces variables
+    /// in every tree: of two variables the younger by the older. `Ok(true)` exactly where there is
+    /// one. After `Ok(false)` and where memory was wanting some bindings may have been made, but no
+    /// cell; every mark still has its heap, so undoing to one gives it back.
     pub fn unify(&mut self, a: Ref, b: Ref) -> Result<bool, AllocError>
         requires a_inside { a < cell_count self.old }
         requires b_inside { b < cell_count self.old }
-        ensures found { IfOk result (λ ok. ok ≡ is_some (unifier (stands_for self.old a) (stands_for self.old b))) }
-        ensures replaced { (m : Map) → unifier (stands_for self.old a) (stands_for self.old b) ≡ Some m →
-            OnOk result (trees self.new ≡ map (applied m) (trees self.old)) }
+        ensures found { IfOk result (λ ok. ok
+            ≡ is_some (unifier (stands_for self.old a) (stands_for self.old b))) }
+        ensures replaced { (m : Map) → unifier (stands_for self.old a) (stands_for self.old b)
+            ≡ Some m →
+            OnOk result (trees self.new ≡ map (apply m) (trees self.old)) }
         ensures cells { cell_count self.new ≡ cell_count self.old }
         ensures counted { variable_count self.new ≡ variable_count self.old }
         ensures marks { KeepsMarks self.old self.new }
@@ -43,12 +47,13 @@ impl Heap {
         Ok(self.turn(a.place(), b.place(), &mut left)? && self.solve(left)?)
     }
 
-    /// Solves the equations that some pairs of cells have left, the latest pair first.
+    // Solves the equations that some pairs of cells have left, the latest pair first.
     fn solve(&mut self, mut left: Vec<(usize, usize)>) -> Result<bool, AllocError>
         requires { AreBelow (cell_count self.old) left.items }
-        ensures found { IfOk result (λ ok. ok ≡ is_some (mgu (left_by (trees self.old) left.items))) }
-        ensures replaced { (m : Map) → mgu (left_by (trees self.old) left.items) ≡ Some m →
-            OnOk result (trees self.new ≡ map (applied m) (trees self.old)) }
+        ensures found { IfOk result (λ ok. ok
+            ≡ is_some (mgu (equations_left (trees self.old) left.items))) }
+        ensures replaced { (m : Map) → mgu (equations_left (trees self.old) left.items) ≡ Some m →
+            OnOk result (trees self.new ≡ map (apply m) (trees self.old)) }
         ensures cells { cell_count self.new ≡ cell_count self.old }
         ensures counted { variable_count self.new ≡ variable_count self.old }
         ensures marks { KeepsMarks self.old self.new }
@@ -61,7 +66,7 @@ impl Heap {
         Ok(true)
     }
 
-    /// Applies the rule for the equation of two cells, and says whether the sides may be equal.
+    // Applies the rule for the equation of two cells, and says whether the sides may be equal.
     fn turn(
         &mut self,
         a: usize,
@@ -72,8 +77,9 @@ impl Heap {
         requires b_inside { b < cell_count self.old }
         requires left_inside { AreBelow (cell_count self.old) left.old.items }
         ensures turned { IfOk result (λ ok. ok ≡ true →
-            Turned (trees self.old) (stands_for self.old a) (stands_for self.old b) (left_by (trees self.old) left.old.items)
-            (trees self.new) (left_by (trees self.new) left.new.items)) }
+            IsTurn (trees self.old) (stands_for self.old a) (stands_for self.old b)
+            (equations_left (trees self.old) left.old.items)
+            (trees self.new) (equations_left (trees self.new) left.new.items)) }
         ensures clashed { IfOk result (λ ok. ok ≡ false →
             step (stands_for self.old a) (stands_for self.old b) ≡ clash) }
         ensures inside { OnOk result (AreBelow (cell_count self.old) left.new.items) }
@@ -98,7 +104,7 @@ impl Heap {
         }
     }
 
-    /// The rule that the terms of two cells call for. It takes no memory.
+    // The rule that the terms of two cells call for. It takes no memory.
     fn rule(&self, a: Ref, b: Ref) -> Rule<'_>
         requires a_inside { a < cell_count self.now }
         requires b_inside { b < cell_count self.now }
@@ -136,7 +142,7 @@ impl Heap {
     }
 }
 
-/// Nothing where both sides are the same, and else a clash.
+// Nothing where both sides are the same, and else a clash.
 fn same_if<'a>(same: bool) -> Rule<'a>
     ensures same { IsTrue same → result ≡ Rule.Same }
     ensures clash { same ≡ false → result ≡ Rule.Clash }
@@ -144,7 +150,7 @@ fn same_if<'a>(same: bool) -> Rule<'a>
     if same { Rule::Same } else { Rule::Clash }
 }
 
-/// Puts pairs of cells last, the first pair after all others.
+// Puts pairs of cells last, the first pair after all others.
 fn push_pairs(
     left: &mut Vec<(usize, usize)>,
     first: &[usize],

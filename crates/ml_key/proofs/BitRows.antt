@@ -6,11 +6,11 @@ use Rattle.std.proofs.lemmas.Nat.{or_shifted, shl_whole, mod_below, pow-add}
 use Rattle.std.proofs.lemmas.Nat.Bits.{shr_and_one}
 use Rattle.ml_bits.specs.BitList.{BitList}
 use Rattle.ml_term.specs.Codes.{bits}
-use Rattle.ml_term.specs.Keys.{first_bit, interleaved}
+use Rattle.ml_term.specs.Keys.{first_bit, interleave}
 use Rattle.ml_term.proofs.Bits.{joined_bits}
-use Rattle.ml_bits.proofs.Stored.{same_list}
-use Rattle.ml_key.specs.Extension.{extended}
-use Rattle.ml_key.specs.Turns.{bit_of}
+use Rattle.ml_bits.proofs.StoredBits.{same_list}
+use Rattle.ml_key.specs.inside.Extension.{extend_list}
+use Rattle.ml_key.specs.inside.Turns.{bit_of}
 
 -- a number that has one bit of each of the first words
 pub record IsRow (words : List ℕ) (place count row : ℕ) : Type 0 where
@@ -36,7 +36,8 @@ row_more words place i row w next here few read before is_next =
     let power : 2 ^ (i + 1) ≡ 2 ^ i * 2 ^ 1 = pow-add 2 i 1 in
     record {
       below = omega (arith, before.below);
-      bits = ap (bits (i + 1)) value ∙ joined_bits i 1 row b small ∙ ap (λ bs. bs ++ bits 1 b) before.bits ∙ ap (λ bs. map (bit_of place) (take i words) ++ bs) (one_bit b small) ∙ sym last;
+      bits = ap (bits (i + 1)) value ∙ joined_bits i 1 row b small ∙ ap (λ bs. bs ++ bits 1 b) before.bits
+          ∙ ap (λ bs. map (bit_of place) (take i words) ++ bs) (one_bit b small) ∙ sym last;
     }
 
 firsts_of : (m : ℕ) (words : List ℕ) → map first_bit (map (bits (suc m)) words) ≡ map (bit_of m) words
@@ -47,13 +48,14 @@ others_of : (m : ℕ) (words : List ℕ) → map (drop 1) (map (bits (suc m)) wo
 others_of m [] = refl
 others_of m (w ∷ words) = ap (λ cs. bits m w ∷ cs) (others_of m words)
 
-rows_of : (m : ℕ) (words : List ℕ) → interleaved (suc m) (map (bits (suc m)) words) ≡ map (bit_of m) words ++ interleaved m (map (bits m) words)
+rows_of : (m : ℕ) (words : List ℕ) → interleave (suc m) (map (bits (suc m)) words) ≡ map (bit_of m) words ++ interleave m (map (bits m) words)
 rows_of m words =
-    ap (λ bs. bs ++ interleaved m (map (drop 1) (map (bits (suc m)) words))) (firsts_of m words) ∙ ap (λ cs. map (bit_of m) words ++ interleaved m cs) (others_of m words)
+    ap (λ bs. bs ++ interleave m (map (drop 1) (map (bits (suc m)) words))) (firsts_of m words)
+    ∙ ap (λ cs. map (bit_of m) words ++ interleave m cs) (others_of m words)
 
 -- a list that has the first rows, and room for the others
 pub record TakesRows (list start : BitList) (words : List ℕ) (rows row : ℕ) : Type 0 where
-  pub bits : list.bits ++ interleaved (rows - row) (map (bits (rows - row)) words) ≡ start.bits ++ interleaved rows (map (bits rows) words)
+  pub bits : list.bits ++ interleave (rows - row) (map (bits (rows - row)) words) ≡ start.bits ++ interleave rows (map (bits rows) words)
   pub room : list.room ≡ start.room
   pub fits : length list.bits + (rows - row) * length words ≤ list.room
 
@@ -61,36 +63,38 @@ pub no_rows : (start : BitList) (words : List ℕ) (rows : ℕ) → length start
 no_rows start words rows fits =
     let all : rows - 0 ≡ rows = omega arith in
     record {
-      bits = ap (λ n. start.bits ++ interleaved n (map (bits n) words)) all;
+      bits = ap (λ n. start.bits ++ interleave n (map (bits n) words)) all;
       room = refl;
       fits = rw all fits;
     }
 
 pub one_row_more : (list new start : BitList) (words : List ℕ) (rows row r : ℕ) → row < rows → TakesRows list start words rows row
-    → bits (length words) r ≡ map (bit_of (rows - 1 - row)) words → new ≡ extended list (bits (length words) r) → TakesRows new start words rows (row + 1)
+    → bits (length words) r ≡ map (bit_of (rows - 1 - row)) words → new ≡ extend_list list (bits (length words) r) → TakesRows new start words rows (row + 1)
 one_row_more list new start words rows row r below before is_row is_new =
     let m : ℕ = rows - 1 - row in
     let left : rows - row ≡ suc m = omega arith in
     let then_left : rows - (row + 1) ≡ m = omega arith in
-    let others = interleaved m (map (bits m) words) in
+    let others = interleave m (map (bits m) words) in
     let new_bits : new.bits ≡ list.bits ++ map (bit_of m) words = ap (λ (l : BitList). l.bits) is_new ∙ ap (λ bs. list.bits ++ bs) is_row in
-    let long : length new.bits ≡ length list.bits + length words = omega (arith, ap length new_bits, length-append list.bits (map (bit_of m) words), length-map words (bit_of m)) in
+    let long : length new.bits ≡ length list.bits + length words =
+    omega (arith, ap length new_bits, length-append list.bits (map (bit_of m) words), length-map words (bit_of m)) in
     let parts : (rows - row) * length words ≡ length words + m * length words = ap (λ n. n * length words) left ∙ omega arith in
     let same_room : new.room ≡ list.room = ap (λ (l : BitList). l.room) is_new in
     record {
       bits =
-          ap (λ n. new.bits ++ interleaved n (map (bits n) words)) then_left
+          ap (λ n. new.bits ++ interleave n (map (bits n) words)) then_left
           ∙ ap (λ bs. bs ++ others) new_bits
           ∙ append_assoc list.bits (map (bit_of m) words) others
           ∙ ap (λ bs. list.bits ++ bs) (sym (rows_of m words))
-          ∙ sym (ap (λ n. list.bits ++ interleaved n (map (bits n) words)) left)
+          ∙ sym (ap (λ n. list.bits ++ interleave n (map (bits n) words)) left)
           ∙ before.bits;
       room = same_room ∙ before.room;
       fits = rw then_left (omega (arith, long, parts, same_room, before.fits));
     }
 
-pub all_rows : (list start : BitList) (words : List ℕ) (rows : ℕ) → TakesRows list start words rows rows → list ≡ extended start (interleaved rows (map (bits rows) words))
+pub all_rows : (list start : BitList) (words : List ℕ) (rows : ℕ) → TakesRows list start words rows rows →
+    list ≡ extend_list start (interleave rows (map (bits rows) words))
 all_rows list start words rows taken =
     let none : rows - rows ≡ 0 = omega arith in
-    same_list list (extended start (interleaved rows (map (bits rows) words)))
-    (sym (append-nil list.bits) ∙ sym (ap (λ n. list.bits ++ interleaved n (map (bits n) words)) none) ∙ taken.bits) taken.room
+    same_list list (extend_list start (interleave rows (map (bits rows) words)))
+    (sym (append-nil list.bits) ∙ sym (ap (λ n. list.bits ++ interleave n (map (bits n) words)) none) ∙ taken.bits) taken.room

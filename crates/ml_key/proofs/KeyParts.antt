@@ -14,11 +14,12 @@ use Rattle.ml_term.specs.Seen.{seen, seen_step}
 use Rattle.ml_term.specs.declared.term.Term.{Term-F, fold-roll-Term}
 use Rattle.ml_term.specs.declared.term.Term.TheVariants.{Var, rolls-Var}
 use Rattle.ml_term.proofs.Bits.{length-bits}
-use Rattle.ml_term.proofs.Fitting.{length_of_key_head}
+use Rattle.ml_term.proofs.FittingKeys.{length_of_key_head}
 use Rattle.ml_key.specs.ItemKeys.{head_bits, item_head, item_key, item_tail}
-use Rattle.ml_key.proofs.Extended.{length-byte_bits}
+use Rattle.ml_key.proofs.GrowingLists.{length-byte_bits}
 
-pub whole_key : (kind : Kind) (keys : List ℕ) (t : Tree) (number : ℕ) → head_bits keys (item_head kind t) ++ item_tail kind t number ≡ item_key kind keys t number
+pub whole_key : (kind : Kind) (keys : List ℕ) (t : Tree) (number : ℕ) →
+    head_bits keys (item_head kind t) ++ item_tail kind t number ≡ item_key kind keys t number
 unfolding head_bits
 whole_key Relation keys t number = refl
 whole_key Clauses keys t number = refl
@@ -33,7 +34,8 @@ has_arguments n [] h = absurd (cc h)
 has_arguments n (k ∷ keys) h =
     let all : list_all (λ j. nat_le 1 j && nat_le j n) (k ∷ keys) ≡ true =
     (and_parts (nat_le 1 (length (k ∷ keys)) && nat_le (length (k ∷ keys)) 8) _ (and_parts _ (are_different (k ∷ keys)) h).0).1 in
-    let first : (nat_le 1 k ≡ true) × (nat_le k n ≡ true) = and_parts (nat_le 1 k) (nat_le k n) (and_parts (nat_le 1 k && nat_le k n) (list_all (λ j. nat_le 1 j && nat_le j n) keys) all).0 in
+    let first : (nat_le 1 k ≡ true) × (nat_le k n ≡ true) =
+    and_parts (nat_le 1 k) (nat_le k n) (and_parts (nat_le 1 k && nat_le k n) (list_all (λ j. nat_le 1 j && nat_le j n) keys) all).0 in
     let low : 1 ≤ k = leb-true 1 k first.0 in
     let high : k ≤ n = leb-true k n first.1 in
     omega (arith, low, high)

@@ -1,6 +1,6 @@
-pub mod Extended
+pub mod GrowingLists
 pub mod BitRows
-pub mod Filled
-pub mod Asked
+pub mod FilledSlots
+pub mod PrefixPlaces
 pub mod KeyParts
-pub mod Beginnings
+pub mod BitBeginnings

@@ -1,4 +1,5 @@
--- The key of an item, by the kind of its declaration. The code takes all memory first, and then writes the bits in turn.
+-- The key of an item, by the kind of its declaration. The code takes all memory first, and then
+-- writes the bits in turn.
 use Rattle.std.specs.Prelude.{ℕ, Bool, List}
 use Rattle.ml_term.specs.declared.declaration.Kind.{Kind}
 use Rattle.ml_term.specs.declared.declaration.Kind.TheVariants.{Relation, Clauses}
@@ -7,7 +8,8 @@ use Rattle.ml_term.specs.CanonicalBytes.{bytes_of}
 use Rattle.ml_term.specs.Codes.{bits, byte_bits}
 use Rattle.ml_term.specs.Keys.{argument, arguments, key_head, tuple_key, clause_key}
 
--- the term of the declared predicate in an item: a tuple is one itself, and a clause is a term ':-'(Head, Body)
+-- the term of the declared predicate in an item: a tuple is one itself, and a clause is a term
+-- ':-'(Head, Body)
 abbrev pub item_head : Kind → Tree → Tree
 item_head Relation t = t
 item_head Clauses t = argument 1 (arguments t)

@@ -1,16 +1,18 @@
 //! The table of codes, and keys and patterns of small items.
 ghost use Rattle.std.specs.Prelude.{◌≡◌, IfOk};
 
-use crate::arguments::{argument_at, arguments_of};
 use crate::{Pattern, code, key_of, may_hold, pattern_of};
 use ml_bits::Bits;
-use ml_term::{Args, Decl, Keys, Kind, Name, Pred, Term, is_name, is_valid, nodes_up_to};
+use ml_term::{
+    Args, Decl, Keys, Kind, Name, Pred, Term, argument_at, arguments_of, is_name, is_valid,
+    nodes_up_to,
+};
 use std::alloc::{AllocError, Global};
 use std::cmp::Ordering;
 use std::process::Abort;
 use std::test::Fail;
 
-/// An argument of a table.
+// An argument of a table.
 #[derive(Clone, Copy)]
 enum Row {
     Variable(u32),
@@ -36,7 +38,7 @@ fn term_of(rt: &impl Abort, alloc: Global, row: Row) -> Result<Term, AllocError>
     }
 }
 
-/// A compound of two arguments.
+// A compound of two arguments.
 fn pair(
     rt: &impl Abort,
     alloc: Global,
@@ -48,7 +50,7 @@ fn pair(
     Ok(Term::Cmp(named(rt, alloc, name)?, Args::new(arguments)))
 }
 
-/// A declaration of a predicate of two arguments of which these are keyed.
+// A declaration of a predicate of two arguments of which these are keyed.
 fn declared(
     rt: &impl Abort,
     alloc: Global,
@@ -67,7 +69,7 @@ fn declared(
     Ok(Decl::new(pred, kind, keys))
 }
 
-/// The key of a tuple q(m,n).
+// The key of a tuple q(m,n).
 fn tuple_key(
     rt: &impl Abort,
     alloc: Global,
@@ -81,7 +83,7 @@ fn tuple_key(
     key_of(alloc, &decl, &tuple, 7)
 }
 
-/// The key of a clause with a head price(first,second), stored with a number.
+// The key of a clause with a head price(first,second), stored with a number.
 fn clause_key(
     rt: &impl Abort,
     alloc: Global,
@@ -105,7 +107,7 @@ fn clause_key(
     key_of(alloc, &decl, &clause, number)
 }
 
-/// The pattern of a head price(first,second).
+// The pattern of a head price(first,second).
 fn asked(rt: &impl Abort, alloc: Global, first: Row, second: Row) -> Result<Pattern, AllocError> {
     let decl = declared(rt, alloc, b"price", Kind::Clauses, &[1, 2])?;
     let head = pair(
@@ -166,7 +168,8 @@ fn keys_of_clauses_end_with_their_numbers(rt: HostRuntime) -> Result<(), Fail> {
     Ok(())
 }
 
-/// A stored clause price(X,3) is looked for wherever price(apple,P) may be found, and price(pear,4) is not.
+// A stored clause price(X,3) is looked for wherever price(apple,P) may be found, and price(pear,4)
+// is not.
 #[test]
 fn regions_of_a_clause_with_a_variable_are_asked(rt: HostRuntime) -> Result<(), Fail> {
     let alloc = rt.alloc();
@@ -189,7 +192,7 @@ fn regions_of_a_clause_with_a_variable_are_asked(rt: HostRuntime) -> Result<(), 
     Ok(())
 }
 
-/// Patterns may be sent to threads and shared by them.
+// Patterns may be sent to threads and shared by them.
 #[test]
 fn may_be_shared(rt: HostRuntime) -> Result<(), Fail> {
     shared(&asked(&rt, rt.alloc(), Row::Variable(0), Row::Variable(1))?);

@@ -1,6 +1,6 @@
-pub mod Changing
-pub mod Closing
-pub mod Lists
-pub mod Numbering
-pub mod Seating
-pub mod Turning
+pub mod ViewChanges
+pub mod LatchClosing
+pub mod ListLemmas
+pub mod SeatNumbers
+pub mod SeatSteps
+pub mod TurnSteps

@@ -1,5 +1,6 @@
 -- The rule of the table: the seats take turns at one value, and all that they know of it is true.
-use Rattle.std.specs.Prelude.{◌≡◌, ◌≢◌, ℕ, suc, ◌+◌, ◌%◌, ◌^◌, ◌<◌, ◌≤◌, List, [], ◌∷◌, length, Option, Some, None, Contains}
+use Rattle.std.specs.Prelude.{◌≡◌, ◌≢◌, ℕ, suc, ◌+◌, ◌%◌, ◌^◌, ◌<◌, ◌≤◌, List, [], ◌∷◌, length}
+use Rattle.std.specs.Prelude.{Option, Some, None, Contains}
 use mathlib.Core.List.{IsPrefix}
 use mathlib.Core.Option.{some, none}
 use mathlib.Core.Option as maybe
@@ -27,31 +28,37 @@ abbrev pub IsSpent : {X E N : Type 0} → List (View X E N) → ℕ → Type 0
 IsSpent {X} {E} {N} views n = (v : View X E N) × (get_elem? views n ≡ some v) × (v.start ≡ None)
 
 module _ {X E N B : Type 0} (past : X → List E) (own : X → ℕ → List N) (base : X → B) where
-  -- What is so of a seat that was not taken in. Its number is its place among the views; the seat 0 counts all others; what it
-  -- has seen and was told begins the past; its own list is the value's, and so is each list that it keeps of a seat taken in.
-  pub record Knows (start value : X) (views : List (View X E N)) (place : ℕ) (v : View X E N) : Type 0 where
+  -- What is so of a seat that was not taken in. Its number is its place among the views; the seat 0
+  -- counts all others; what it has seen and was told begins the past; its own list is the value's,
+  -- and so is each list that it keeps of a seat taken in.
+  pub record Knows (start value : X) (views : List (View X E N)) (place : ℕ) (v : View X E N) : Type
+      0 where
     pub begun : v.start ≡ Some start
     pub number : v.number ≡ place
     pub counts : place ≡ 0 → length views ≡ suc v.given
     pub seen : IsPrefix v.seen (past value)
     pub told : IsPrefix v.told (past value)
     pub own_is : own value place ≡ v.own
-    pub kept : (n : ℕ) (notes : List N) → Contains v.kept (n, notes) → (own value n ≡ notes) × IsSpent views n
+    pub kept : (n : ℕ) (notes : List N) → Contains v.kept (n, notes) → (own value n ≡ notes)
+        × IsSpent views n
 
-  -- What is so of each seat, where `taker` is the place of the one that has its turn. That one has taken the value, and its
-  -- ticket is served; no other has taken a value. A ticket was drawn and not passed on, and a seat that has one was not taken in.
-  pub record Fits (taker : Option ℕ) (passed drawn : ℕ) (start value : X) (views : List (View X E N))
+  -- What is so of each seat, where `taker` is the place of the one that has its turn. That one has
+  -- taken the value, and its ticket is served; no other has taken a value. A ticket was drawn and
+  -- not passed on, and a seat that has one was not taken in.
+  pub record Fits (taker : Option ℕ) (passed drawn : ℕ) (start value : X)
+      (views : List (View X E N))
       (place : ℕ) (v : View X E N) : Type 0 where
     pub turn : taker ≡ Some place → (v.taken ≡ Some value) × (v.ticket ≡ Some passed)
     pub idle : taker ≢ Some place → v.taken ≡ None
     pub ticket : (k : ℕ) → v.ticket ≡ Some k → (passed ≤ k) × (k < drawn) × (v.start ≡ Some start)
     pub knows : (x : X) → v.start ≡ Some x → Knows start value views place v
 
-  -- There are counts of the tickets drawn and of the turns passed on, which the two words hold modulo 2 ^ 64, and there is one
-  -- value: at home, or out with the seat that has its turn, and then it is the value as that turn found it. Each ticket that was
-  -- drawn and not passed on is held by one seat. A seat's number is a u32, so there are at most 2 ^ 32 seats, and the tickets
-  -- that are held stay different modulo 2 ^ 64. The list of a number that was not given out is that of the value at the start.
-  -- The code has neither the counts nor the views.
+  -- There are counts of the tickets drawn and of the turns passed on, which the two words hold
+  -- modulo 2 ^ 64, and there is one value: at home, or out with the seat that has its turn, and
+  -- then it is the value as that turn found it. Each ticket that was drawn and not passed on is
+  -- held by one seat. A seat's number is a u32, so there are at most 2 ^ 32 seats, and the tickets
+  -- that are held stay different modulo 2 ^ 64. The list of a number that was not given out is that
+  -- of the value at the start. The code has neither the counts nor the views.
   pub record IsInTurns (start : X) (s : State (Option X) (View X E N)) : Type 0 where
     pub drawn : ℕ
     pub passed : ℕ
@@ -65,6 +72,8 @@ module _ {X E N B : Type 0} (past : X → List E) (own : X → ℕ → List N) (
     pub there : (p : ℕ) → taker ≡ Some p → p < length s.views
     pub base_is : base value ≡ base start
     pub fresh : (n : ℕ) → length s.views ≤ n → own value n ≡ own start n
-    pub each : (p : ℕ) (v : View X E N) → get_elem? s.views p ≡ some v → Fits taker passed drawn start value s.views p v
-    pub apart : (p q k : ℕ) (v w : View X E N) → get_elem? s.views p ≡ some v → get_elem? s.views q ≡ some w
+    pub each : (p : ℕ) (v : View X E N) → get_elem? s.views p ≡ some v
+        → Fits taker passed drawn start value s.views p v
+    pub apart : (p q k : ℕ) (v w : View X E N) → get_elem? s.views p ≡ some v
+        → get_elem? s.views q ≡ some w
         → v.ticket ≡ Some k → w.ticket ≡ Some k → p ≡ q

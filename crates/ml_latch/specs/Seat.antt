@@ -1,5 +1,6 @@
 -- What clauses see of a latch and of its seats.
-use Rattle.std.specs.Prelude.{◌≡◌, ℕ, ◌+◌, ◌<◌, ◌≤◌, List, [], ◌∷◌, ◌++◌, Option, Some, Contains, slice_get}
+use Rattle.std.specs.Prelude.{◌≡◌, ℕ, ◌+◌, ◌<◌, ◌≤◌, List, [], ◌∷◌, ◌++◌, Option, Some, Contains}
+use Rattle.std.specs.Prelude.{slice_get}
 use Rattle.atomic_table.specs.Seated.{TableId}
 use Rattle.ml_latch.specs.Lists.{longer}
 
@@ -9,9 +10,10 @@ pub record LatchState (X : Type 0) : Type 0 where
   pub start : X
   pub seats : ℕ
 
--- A seat is its latch, told by the table and by the value that the latch was made with, its number, the past that it has
--- seen, what was done through it, how many seats it gave out, and the number of each seat that it took in with what was
--- done through that one. The code has two numbers and a token without bytes.
+-- A seat is its latch, told by the table and by the value that the latch was made with, its number,
+-- the past that it has seen, what was done through it, how many seats it gave out, and the number
+-- of each seat that it took in with what was done through that one. The code has two numbers and a
+-- token without bytes.
 pub record SeatState (X E N : Type 0) : Type 0 where
   pub table : TableId
   pub start : Option X
@@ -25,8 +27,8 @@ pub record SeatState (X E N : Type 0) : Type 0 where
 abbrev pub IsSeatOf : {X E N : Type 0} → LatchState X → SeatState X E N → Type 0
 IsSeatOf latch seat = (seat.table ≡ latch.table) × (seat.start ≡ Some latch.start)
 
--- What a seat is after it took another in: it has seen the longer of what both had seen, and keeps what was done through the
--- other, and all that the other kept.
+-- What a seat is after it took another in: it has seen the longer of what both had seen, and keeps
+-- what was done through the other, and all that the other kept.
 abbrev pub after_joining : {X E N : Type 0} → SeatState X E N → SeatState X E N → SeatState X E N
 after_joining into other = record into {
   seen = longer into.seen other.seen;

@@ -1,4 +1,5 @@
--- What each step tells the seat that makes it: of the step, the seat before, the number found in the word, and the seat after.
+-- What each step tells the seat that makes it: of the step, the seat before, the number found in
+-- the word, and the seat after.
 use Rattle.std.specs.Prelude.{◌≡◌, ◌≢◌, ℕ, ◌%◌, ◌^◌, List, [], ◌∷◌, Option, Some}
 use mathlib.Core.List.{IsPrefix}
 use Rattle.atomic_table.specs.Table.{Me, Step}
@@ -10,9 +11,11 @@ use Rattle.ml_latch.specs.declared.view.View.{View}
 abbrev pub Draws : {X E N : Type 0}
     → Step (Option X) → Me (Option X) (View X E N) → ℕ → Me (Option X) (View X E N) → Type 0
 Draws step old found new =
-    (ticket : ℕ) × (found ≡ ticket % 2 ^ 64) × (new ≡ (record old.0 { ticket = Some ticket }, old.1))
+    (ticket : ℕ) × (found ≡ ticket % 2 ^ 64)
+    × (new ≡ (record old.0 { ticket = Some ticket }, old.1))
 
--- Where the seat's own ticket is served, the seat has taken the value; otherwise nothing has changed.
+-- Where the seat's own ticket is served, the seat has taken the value; otherwise nothing has
+-- changed.
 abbrev pub Looks : {X E N B : Type 0} → (X → List E) → (X → ℕ → List N) → (X → B)
     → Step (Option X) → Me (Option X) (View X E N) → ℕ → Me (Option X) (View X E N) → Type 0
 Looks {X} past own base step old found new =

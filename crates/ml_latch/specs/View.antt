@@ -22,7 +22,8 @@ abbrev pub own_at_start : {X N : Type 0} → (X → ℕ → List N) → Option X
 own_at_start own (Some x) n = own x n
 own_at_start own None n = []
 
--- What the next new seat knows: what its maker has seen, and its list in the value that the latch was made with.
+-- What the next new seat knows: what its maker has seen, and its list in the value that the latch
+-- was made with.
 abbrev pub given_view : {X E N : Type 0} → (X → ℕ → List N) → View X E N → View X E N
 given_view own v = record {
   start = v.start;
@@ -40,9 +41,11 @@ given_view own v = record {
 abbrev pub after_giving : {X E N : Type 0} → View X E N → View X E N
 after_giving v = record v { given = suc v.given }
 
--- A seat that took another in: it keeps the other's list and all that the other kept, and was told what the other has seen.
+-- A seat that took another in: it keeps the other's list and all that the other kept, and was told
+-- what the other has seen.
 abbrev pub after_taking_in : {X E N : Type 0} → View X E N → View X E N → View X E N
-after_taking_in v other = record v { told = other.seen; kept = v.kept ++ (other.number, other.own) ∷ other.kept }
+after_taking_in v other =
+    record v { told = other.seen; kept = v.kept ++ (other.number, other.own) ∷ other.kept }
 
 -- A seat that was taken in.
 abbrev pub spent_view : {X E N : Type 0} → View X E N
@@ -63,5 +66,7 @@ abbrev pub after_settling : {X E N : Type 0} → View X E N → View X E N
 after_settling v = record v { seen = longer v.seen v.told }
 
 -- A seat whose turn left this value.
-abbrev pub after_turn : {X E N : Type 0} → (X → List E) → (X → ℕ → List N) → View X E N → X → View X E N
-after_turn past own v left = record v { ticket = None; taken = None; seen = past left; own = own left v.number }
+abbrev pub after_turn : {X E N : Type 0} → (X → List E) → (X → ℕ → List N) → View X E N → X
+    → View X E N
+after_turn past own v left =
+    record v { ticket = None; taken = None; seen = past left; own = own left v.number }

@@ -9,14 +9,16 @@ pub trait Job<V: Kept> {
     /// What the caller of the turn is told.
     type Answer;
 
-    /// When the work may be done: a fact of the job, the value's base, the seat's own list and the past.
+    /// When the work may be done: a fact of the job, the value's base, the seat's own list and the
+    /// past.
     ghost needs: { Self → V.Base → List V.Note → List V.Entry → Type 0 };
 
-    /// What the work does: a fact of the job, the value before, the seat's number, the answer and the value after.
+    /// What the work does: a fact of the job, the value before, the seat's number, the answer and
+    /// the value after.
     ghost gives: { Self → V → ℕ → Self.Answer → V → Type 0 };
 
-    /// Works on the value, through the seat with this number. The past only grows, no other seat's list changes, and the
-    /// base stays.
+    /// Works on the value, through the seat with this number. The past only grows, no other seat's
+    /// list changes, and the base stays.
     fn work(self, value: &mut V, number: u32) -> Self::Answer
         requires { needs self (V.base value.old) (V.own value.old number) (V.past value.old) }
         ensures gives { gives self value.old number result value.new }

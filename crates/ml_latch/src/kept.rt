@@ -1,7 +1,8 @@
 //! What a latch keeps.
 ghost use Rattle.std.specs.Prelude.{ℕ, List};
 
-/// A value that is kept by a latch. Its three meanings are for contracts alone: no entry, note or base is made here.
+/// A value that is kept by a latch. Its three meanings are for contracts alone: no entry, note or
+/// base is made here.
 pub trait Kept {
     /// One thing that was done to the value.
     type Entry;

@@ -20,7 +20,8 @@ use std::sync::Wait;
 /// There was no memory.
 pub type OutOfMemory = AllocError;
 
-/// A value that seats take turns at. Contracts see the value that it was made with, and how many seats it may give out.
+/// A value that seats take turns at. Contracts see the value that it was made with, and how many
+/// seats it may give out.
 #[derive(Drop)]
 pub struct Latch<V: Kept> {
     table: Table<Option<V>, ViewOf<V>, Snapshot<V>, Turns<V>, Global>,
@@ -33,14 +34,19 @@ impl<V: Kept> Model for Latch<V> {
 
     ghost Value = { LatchState V };
 
-    ghost view = { λ l. record { table = l.table.shared.table_id; start = l.table.shared.key.value; seats = l.seats } };
+    ghost view = { λ l. record {
+      table = l.table.shared.table_id;
+      start = l.table.shared.key.value;
+      seats = l.seats;
+    } };
 
-    ghost invariant = { λ l. (l.table.shared.table_id.words ≡ 2) × (l.table.shared.table_id.slots ≡ 1) × (l.seats < 2 ^ 32) };
+    ghost invariant = { λ l. (l.table.shared.table_id.words ≡ 2)
+        × (l.table.shared.table_id.slots ≡ 1) × (l.seats < 2 ^ 32) };
 }
 
 impl<V: Kept> Latch<V> {
-    /// A latch round this value, which may give out so many seats, and its seat number 0, which has seen the value's whole
-    /// past. After a refusal the value was dropped.
+    /// A latch round this value, which may give out so many seats, and its seat number 0, which has
+    /// seen the value's whole past. After a refusal the value was dropped.
     pub fn new(alloc: Global, value: V, seats: u32) -> Result<(Latch<V>, Seat<V>), OutOfMemory>
     where
         V: Drop,
@@ -67,8 +73,9 @@ impl<V: Kept> Latch<V> {
         }
     }
 
-    /// Gives out a new seat, with the next number from 1 on. It has seen what its maker has seen, and what was done through
-    /// it is what the value that the latch was made with says of its number. It takes no memory.
+    /// Gives out a new seat, with the next number from 1 on. It has seen what its maker has seen,
+    /// and what was done through it is what the value that the latch was made with says of its
+    /// number. It takes no memory.
     pub fn split(&self, from: &mut Seat<V>) -> Seat<V>
         requires latch { IsSeatOf self.now from.old }
         requires first { from.old.number ≡ 0 }
@@ -89,20 +96,22 @@ impl<V: Kept> Latch<V> {
         }
     }
 
-    /// Takes a turn: waits for it, does the job, and gives the job's answer. The seat then has seen the whole past. It
-    /// refuses nothing, and no clause says that the turn ever comes.
+    /// Takes a turn: waits for it, does the job, and gives the job's answer. The seat then has seen
+    /// the whole past. It refuses nothing, and no clause says that the turn ever comes.
     pub fn call<J: Job<V>, R: Wait>(&self, rt: &R, seat: &mut Seat<V>, job: J) -> J::Answer
         requires latch { IsSeatOf self.now seat.old }
-        requires job { MayWorkAfter (J.needs job) (V.base self.now.start) seat.old.own seat.old.seen }
-        ensures turn { TakesTurn V.past V.own V.base (J.gives job) self.now.start seat.old seat.new result }
+        requires job { MayWorkAfter (J.needs job) (V.base self.now.start) seat.old.own
+            seat.old.seen }
+        ensures turn { TakesTurn V.past V.own V.base (J.gives job) self.now.start seat.old seat.new
+            result }
         ensures seen { IsPrefix seat.old.seen seat.new.seen }
     {
         let number = seat.number;
         work_in_turn(rt, &self.table.shared, &mut seat.place, number, job)
     }
 
-    /// Takes another seat in, with each seat that it took in. The one that stays then has seen the longer of what both had
-    /// seen, which begins with the shorter. It takes no memory.
+    /// Takes another seat in, with each seat that it took in. The one that stays then has seen the
+    /// longer of what both had seen, which begins with the shorter. It takes no memory.
     pub fn join(&self, into: &mut Seat<V>, other: Seat<V>)
         requires latch { IsSeatOf self.now into.old }
         requires other { IsSeatOf self.now other }
@@ -120,8 +129,9 @@ impl<V: Kept> Latch<V> {
         table.load::<Settle<V>>(&mut into.place, TICKET);
     }
 
-    /// The value, once seat 0 took every other seat in. Its past begins with what that seat has seen, and what it says of
-    /// each number is what was done through the seat with that number. It takes no memory.
+    /// The value, once seat 0 took every other seat in. Its past begins with what that seat has
+    /// seen, and what it says of each number is what was done through the seat with that number. It
+    /// takes no memory.
     pub fn close(self, seat: Seat<V>) -> V
         requires latch { IsSeatOf self seat }
         requires first { seat.number ≡ 0 }
@@ -129,7 +139,8 @@ impl<V: Kept> Latch<V> {
         ensures past { IsPrefix seat.seen (V.past result) }
         ensures base { V.base result ≡ V.base self.start }
         ensures own { V.own result 0 ≡ seat.own }
-        ensures kept { (n : ℕ) (notes : List V.Note) → Contains seat.kept (n, notes) → V.own result n ≡ notes }
+        ensures kept { (n : ℕ) (notes : List V.Note) → Contains seat.kept (n, notes)
+            → V.own result n ≡ notes }
         ensures others { (n : ℕ) → seat.given < n → V.own result n ≡ V.own self.start n }
     {
         let Latch { table, seats: _ } = self;

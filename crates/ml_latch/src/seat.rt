@@ -3,8 +3,9 @@ use crate::kept::Kept;
 use crate::table::Place;
 use std::marker::Model;
 
-/// The right to take turns at one latch. Contracts see its number, what it has seen of the value's past, what was done
-/// through it, how many seats it gave out, and the seats that it took in with what was done through each.
+/// The right to take turns at one latch. Contracts see its number, what it has seen of the value's
+/// past, what was done through it, how many seats it gave out, and the seats that it took in with
+/// what was done through each.
 #[derive(Drop)]
 pub struct Seat<V: Kept> {
     pub(crate) place: Place<V>,
@@ -19,7 +20,16 @@ impl<V: Kept> Model for Seat<V> {
 
     ghost Value = { SeatState V V.Entry V.Note };
 
-    ghost view = { λ s. let v = s.place.me.0 in record { table = s.place.table_id; start = v.start; number = s.number; seen = v.seen; own = v.own; given = s.given; kept = v.kept } };
+    ghost view = { λ s. let v = s.place.me.0 in record {
+      table = s.place.table_id;
+      start = v.start;
+      number = s.number;
+      seen = v.seen;
+      own = v.own;
+      given = s.given;
+      kept = v.kept;
+    } };
 
-    ghost invariant = { λ s. (s.place.me.0.number ≡ s.number) × (s.place.me.0.given ≡ s.given) × ((x : V) × IsIdle x s.place.me) };
+    ghost invariant = { λ s. (s.place.me.0.number ≡ s.number) × (s.place.me.0.given ≡ s.given)
+        × ((x : V) × IsIdle x s.place.me) };
 }

@@ -38,7 +38,8 @@ impl Job<Count> for Add {
 
     ghost needs = { λ job base own past. Unit {0} };
 
-    ghost gives = { λ job before number answer after. (after.total ≡ (before.total + 1) % 2 ^ 64) × (answer ≡ after.total) };
+    ghost gives = { λ job before number answer after. (after.total ≡ (before.total + 1) % 2 ^ 64)
+        × (answer ≡ after.total) };
 
     fn work(self, value: &mut Count, _number: u32) -> u64 {
         value.total = value.total.wrapping_add(1);
@@ -54,7 +55,8 @@ fn add_often<R: Wait>(
     times: u32,
 ) -> Seat<Count>
     requires { IsSeatOf latch.now seat }
-    ensures { IsSeatOf latch.now result × (result.number ≡ seat.number) × (result.kept ≡ seat.kept) }
+    ensures { IsSeatOf latch.now result × (result.number ≡ seat.number)
+        × (result.kept ≡ seat.kept) }
 {
     for _ in 0..times {
         latch.call(rt, &mut seat, Add);
@@ -71,11 +73,13 @@ fn two_seats_count_to_three(rt: HostRuntime) -> Result<(), Fail> {
         &rt,
         || -> Seat<Count>
             requires { IsSeatOf latch one }
-            ensures { IsSeatOf latch result × (result.number ≡ one.number) × (result.kept ≡ one.kept) }
+            ensures { IsSeatOf latch result × (result.number ≡ one.number)
+                × (result.kept ≡ one.kept) }
         { add_often(&rt, &latch, one, 2) },
         || -> Seat<Count>
             requires { IsSeatOf latch two }
-            ensures { IsSeatOf latch result × (result.number ≡ two.number) × (result.kept ≡ two.kept) }
+            ensures { IsSeatOf latch result × (result.number ≡ two.number)
+                × (result.kept ≡ two.kept) }
         { add_often(&rt, &latch, two, 1) },
     );
     latch.join(&mut first, one);
@@ -95,8 +99,10 @@ fn split_often(
     requires latch { IsSeatOf latch.now first.old }
     requires first { (first.old.number ≡ 0) × (first.old.given ≡ 0) }
     requires room { count ≤ latch.now.seats }
-    ensures first { IfOk result (λ seats. IsSeatOf latch.now first.new × (first.new.number ≡ 0) × (first.new.given ≡ count)) }
-    ensures seats { IfOk result (λ seats. (vec_len seats ≡ count) × AreNumbered latch.now seats.items) }
+    ensures first { IfOk result (λ seats.
+        IsSeatOf latch.now first.new × (first.new.number ≡ 0) × (first.new.given ≡ count)) }
+    ensures seats { IfOk result (λ seats.
+        (vec_len seats ≡ count) × AreNumbered latch.now seats.items) }
 {
     let mut seats = Vec::with_capacity(alloc, count as usize)?;
     for _ in 0..count {
@@ -113,14 +119,16 @@ fn add_in_threads<R: Threads + Wait + Sync>(
     times: u32,
 ) -> Result<Vec<Seat<Count>>, OutOfMemory>
     requires { AreNumbered latch.now seats.items }
-    ensures { IfOk result (λ done. (vec_len done ≡ vec_len seats) × AreNumbered latch.now done.items) }
+    ensures { IfOk result (λ done.
+        (vec_len done ≡ vec_len seats) × AreNumbered latch.now done.items) }
 {
     let done = thread::map_vec(
         rt,
         seats,
         &|seat: Seat<Count>| -> Seat<Count>
             requires { IsSeatOf latch.now seat }
-            ensures { IsSeatOf latch.entry.now result × (result.number ≡ seat.number) × (result.kept ≡ seat.kept) }
+            ensures { IsSeatOf latch.entry.now result × (result.number ≡ seat.number)
+                × (result.kept ≡ seat.kept) }
         { add_often(rt, latch, seat, times) },
     )?;
     Ok(done)
@@ -130,7 +138,8 @@ fn add_in_threads<R: Threads + Wait + Sync>(
 fn join_all(latch: &Latch<Count>, into: &mut Seat<Count>, mut seats: Vec<Seat<Count>>)
     requires latch { IsSeatOf latch.now into.old }
     requires seats { AreNumbered latch.now seats.items }
-    ensures into { IsSeatOf latch.now into.new × (into.new.number ≡ into.old.number) × (into.new.given ≡ into.old.given) }
+    ensures into { IsSeatOf latch.now into.new × (into.new.number ≡ into.old.number)
+        × (into.new.given ≡ into.old.given) }
     ensures all { (n : ℕ) → 0 < n → n ≤ vec_len seats → TookIn into.new n }
 {
     while let Some(seat) = seats.pop() {

@@ -1,4 +1,5 @@
-//! One turn: a ticket is drawn, the value is awaited, worked on and put back, and the next ticket is served.
+//! One turn: a ticket is drawn, the value is awaited, worked on and put back, and the next ticket
+//! is served.
 ghost use Rattle.std.specs.Prelude.{◌≡◌, ◌∷◌, [], None, Some};
 ghost use Rattle.ml_latch.specs.Place.{FitsTable, IsIdle, IsSamePlace, IsWaiting};
 ghost use Rattle.ml_latch.specs.Turn.{Finds, MayBecome, MayWorkAfter, WorksInTurn};
@@ -37,7 +38,8 @@ fn await_turn<V: Kept, R: Wait>(
 fn pass_on<V: Kept>(table: &TurnTable<V>, place: &mut Place<V>, value: V)
     requires table { FitsTable table.now.table_id place.old.table_id }
     requires slot { place.old.me.1 ≡ (0, None) ∷ [] }
-    requires turn { (found : V) × (place.old.me.0.taken ≡ Some found) × MayBecome V.past V.own V.base place.old.me.0.number found value }
+    requires turn { (found : V) × (place.old.me.0.taken ≡ Some found)
+        × MayBecome V.past V.own V.base place.old.me.0.number found value }
     requires start { place.old.me.0.start ≡ Some table.now.key.value }
     ensures table { IsSamePlace place.old place.new }
     ensures seen { place.new.me ≡ (after_turn V.past V.own place.old.me.0 value, []) }
@@ -58,9 +60,11 @@ pub(crate) fn work_in_turn<V: Kept, J: Job<V>, R: Wait>(
     requires table { FitsTable table.now.table_id place.old.table_id }
     requires idle { IsIdle table.now.key.value place.old.me }
     requires number { place.old.me.0.number ≡ number }
-    requires job { MayWorkAfter (J.needs job) (V.base table.now.key.value) place.old.me.0.own place.old.me.0.seen }
+    requires job { MayWorkAfter (J.needs job) (V.base table.now.key.value) place.old.me.0.own
+        place.old.me.0.seen }
     ensures table { IsSamePlace place.old place.new }
-    ensures turn { WorksInTurn V.past V.own V.base (J.gives job) table.now.key.value place.old.me.0 place.new.me result }
+    ensures turn { WorksInTurn V.past V.own V.base (J.gives job) table.now.key.value place.old.me.0
+        place.new.me result }
 {
     let ticket = table.fetch_add::<Draw<V>>(place, TICKET, 1);
     let mut value = await_turn(rt, table, place, ticket);

@@ -1,9 +1,11 @@
 //! What a seat knows.
 use std::collections::LinkedList;
 
-/// The knowledge of one seat about a table of turns. No value of it is made: it stands in proofs alone.
+/// The knowledge of one seat about a table of turns. No value of it is made: it stands in proofs
+/// alone.
 pub struct View<X, E, N> {
-    /// The value that the latch was made with. `None`: the seat was taken in by another, and knows nothing.
+    /// The value that the latch was made with. `None`: the seat was taken in by another, and knows
+    /// nothing.
     pub start: Option<X>,
     pub number: u64,
     /// The ticket that it drew and that wasn't served to its end, counted from 0 and never reduced.

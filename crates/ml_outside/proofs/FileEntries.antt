@@ -22,9 +22,11 @@ over_cond true v rest = refl
 over_cond false v rest = refl
 
 -- the first entry of a name has the bytes of the first value of that key
-find_entry : (es : List (String Global × Vec ℕ Global)) (q : List ℕ) → find (slice_cmp nat_cmp) q (map entry_bytes es) ≡ bytes_of (lookup (is_at (λ k. slice_cmp nat_cmp q (string_bytes k))) es)
+find_entry : (es : List (String Global × Vec ℕ Global)) (q : List ℕ)
+    → find (slice_cmp nat_cmp) q (map entry_bytes es) ≡ bytes_of (lookup (is_at (λ k. slice_cmp nat_cmp q (string_bytes k))) es)
 find_entry [] q = refl
-find_entry (e ∷ es) q = ap (cond (is_eq (slice_cmp nat_cmp q (string_bytes e.0))) (Some e.1.items)) (find_entry es q) ∙ over_cond (is_eq (slice_cmp nat_cmp q (string_bytes e.0))) e.1 _
+find_entry (e ∷ es) q = ap (cond (is_eq (slice_cmp nat_cmp q (string_bytes e.0))) (Some e.1.items)) (find_entry es q)
+    ∙ over_cond (is_eq (slice_cmp nat_cmp q (string_bytes e.0))) e.1 _
 
 -- what is held under a name is what the map has there
 pub get_files : (m : BTreeMap (String Global) (Vec ℕ Global)) (q : List ℕ) → get (files_of m.entries) q ≡ option_map (λ v. v.items) (get_by_text m q)

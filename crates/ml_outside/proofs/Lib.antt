@@ -1,2 +1,2 @@
 pub mod FileEntries
-pub mod Passing
+pub mod BytesPassed

@@ -6,7 +6,8 @@ use Rattle.std.specs.Cmp.Lexicographic.{slice_cmp}
 use Rattle.std.specs.FinMap as map
 use Rattle.std.specs.declared.alloc.Global.{Global}
 use Rattle.ml_outside.specs.declared.shelf.FetchStop.{FetchStop}
-use Rattle.ml_outside.specs.declared.shelf.FetchStop.TheVariants.{Absent, TooLong, Failed, OutOfMemory}
+use Rattle.ml_outside.specs.declared.shelf.FetchStop.TheVariants.{Absent, TooLong, Failed}
+use Rattle.ml_outside.specs.declared.shelf.FetchStop.TheVariants.{OutOfMemory}
 
 -- a finite map from names to bytes
 abbrev pub Files : Type 0

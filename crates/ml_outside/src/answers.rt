@@ -1,4 +1,4 @@
-// What tests of shelves share.
+//! What tests of shelves share.
 use crate::FetchStop;
 
 /// Whether a fetch answered this.

@@ -1,4 +1,4 @@
-// The files of a folder as a shelf: the trusted edge. It tells nothing of what a file holds.
+//! The files of a folder as a shelf: the trusted edge. It tells nothing of what a file holds.
 ghost use Rattle.std.specs.Prelude.{◌≡◌, ◌≤◌, None, Some, length, IfOk, IfSome, IsErrOf};
 ghost use Rattle.ml_outside.specs.Causes.{no_faults};
 ghost use Rattle.ml_outside.specs.Held.{Finds};

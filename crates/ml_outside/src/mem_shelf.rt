@@ -1,4 +1,4 @@
-// A shelf in memory. It never fails, so both of its counts stay 0.
+//! A shelf in memory. It never fails, so both of its counts stay 0.
 ghost use Rattle.std.specs.Prelude.{◌≡◌, Some};
 ghost use Rattle.std.specs.FinMap as map;
 

@@ -1,4 +1,4 @@
-// A sink in memory. It never fails, so its count stays 0.
+//! A sink in memory. It never fails, so its count stays 0.
 ghost use Rattle.std.specs.Prelude.{◌≡◌, [], Some};
 
 use crate::{Sink, WriteStop};

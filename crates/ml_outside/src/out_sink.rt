@@ -1,4 +1,4 @@
-// Standard output as a sink: the trusted edge. It tells nothing of what a terminal shows.
+//! Standard output as a sink: the trusted edge. It tells nothing of what a terminal shows.
 ghost use Rattle.std.specs.Prelude.{◌≡◌, None};
 
 use crate::transfer::write_whole;

@@ -1,5 +1,6 @@
-// A keeper of byte texts under names, by what it holds and by how often it failed.
-ghost use Rattle.std.specs.Prelude.{◌≡◌, ◌≤◌, ℕ, Option, length, option_map, IfOk, OnOk, IfSome, IsErrOf};
+//! A keeper of byte texts under names, by what it holds and by how often it failed.
+ghost use Rattle.std.specs.Prelude.{◌≡◌, ◌≤◌, ℕ, Option, length, option_map, IfOk, OnOk, IfSome};
+ghost use Rattle.std.specs.Prelude.{IsErrOf};
 ghost use Rattle.std.specs.FinMap as map;
 ghost use Rattle.ml_outside.specs.declared.shelf.FetchStop.TheVariants as fetch_stop;
 ghost use Rattle.ml_outside.specs.declared.shelf.PutStop.TheVariants as put_stop;

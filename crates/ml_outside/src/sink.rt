@@ -1,4 +1,4 @@
-// Where output goes, by what was written and by how often it failed.
+//! Where output goes, by what was written and by how often it failed.
 ghost use Rattle.std.specs.Prelude.{◌≡◌, List, ℕ, Option, OnOk, IsErrOf};
 ghost use Rattle.ml_outside.specs.declared.sink.WriteStop.TheVariants as write_stop;
 ghost use Rattle.ml_outside.specs.Causes.{HasCause};

@@ -1,6 +1,7 @@
-// Bytes from a reader up to a limit, and bytes to a writer to the last one. A reader or a writer
-// may give or take less than it was asked for, be interrupted, or fail half-way.
-ghost use Rattle.std.specs.Prelude.{◌≡◌, ◌≢◌, ◌≤◌, ◌↔◌, Some, None, length, take, IfOk, OnOk, OnErr, IfSome, IsErrOf, IsOkUnless};
+//! Bytes from a reader up to a limit, and bytes to a writer to the last one. A reader or a writer
+//! may give or take less than it was asked for, be interrupted, or fail half-way.
+ghost use Rattle.std.specs.Prelude.{◌≡◌, ◌≢◌, ◌≤◌, ◌↔◌, Some, None, length, take, IfOk, OnOk};
+ghost use Rattle.std.specs.Prelude.{OnErr, IfSome, IsErrOf, IsOkUnless};
 ghost use Rattle.std.specs.Io.KnownBytes.{Appends, Keeps};
 ghost use Rattle.std.specs.IoError.{error_kind, raw_os_error};
 ghost use Rattle.ml_outside.specs.Held.{Finds};

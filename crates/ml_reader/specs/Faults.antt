@@ -1,51 +1,54 @@
--- Where a text goes wrong, and what goes wrong first. Nothing here knows how a text is read: what stands before a fault is
--- said by the grammar, as is where a level or an argument begins.
-use Rattle.std.specs.Prelude.{◌≡◌, ◌≢◌, ℕ, ◌≤◌, ◌<◌, ◌⊎◌, true, false, List, [], ◌∷◌, ◌++◌, length, codes, Ok, Err}
+-- Where a text goes wrong, and what goes wrong first. Nothing here knows how a text is read: what
+-- stands before a fault is said by the grammar, as is where a level or an argument begins.
+use Rattle.std.specs.Prelude.{◌≡◌, ◌≢◌, ℕ, ◌≤◌, ◌<◌, ◌⊎◌, true, false, List, [], ◌∷◌, ◌++◌, length}
+use Rattle.std.specs.Prelude.{codes}
 use Rattle.ml_term.specs.Tree.{nodes}
-use Rattle.ml_token.specs.Tokens.{first_token}
+use Rattle.ml_token.specs.Language.{HasToken, HasFault as HasTokenFault}
 use Rattle.ml_token.specs.Values.{number_of}
 use Rattle.ml_token.specs.declared.tokens.Token.{Token}
 use Rattle.ml_token.specs.declared.tokens.TokenKind.TheVariants.{Number, Eof}
 use Rattle.ml_token.specs.declared.tokens.TokenFault.{TokenFault}
 use Rattle.ml_token.specs.declared.tokens.TokenFaultKind.{TokenFaultKind}
 use Rattle.ml_token.specs.declared.tokens.TokenFaultKind.TheVariants as token
-use Rattle.ml_reader.specs.Lexemes.{Mark, Lexeme, Written, name, end}
-use Rattle.ml_reader.specs.Tokens.{Context, lexeme, behind, is_tight, nothing_before, GoesOn}
+use Rattle.ml_reader.specs.Lexemes.{ClauseEnd, Lexeme, ReadClause, name, end}
+use Rattle.ml_reader.specs.Tokens.{TokenContext, lexeme, behind, is_tight, text_start, GoesOn}
 use Rattle.ml_reader.specs.Grammar.{IsText, Viable}
 use Rattle.ml_reader.specs.Levels.{Level, in_argument, Wants}
 use Rattle.ml_reader.specs.declared.fault.ReadFault.{ReadFault}
 use Rattle.ml_reader.specs.declared.fault.ReadKind.{ReadKind}
 use Rattle.ml_reader.specs.declared.fault.ReadKind.TheVariants as kind
-use Rattle.ml_reader.specs.declared.limits.TheConstants.{MOST_LEVELS, MOST_ARGUMENTS, MOST_TOKENS, MOST_NODES, INTEGER_OFFSET}
+use Rattle.ml_term.specs.Limits.{max_arguments, max_term_nodes, integer_offset}
+use Rattle.ml_reader.specs.Limits.{max_text_levels, max_clause_tokens}
 
 -- the kind of a token's fault
-abbrev pub kind_of : TokenFaultKind → ReadKind
-kind_of token.BadCharacter = kind.BadCharacter
-kind_of token.OpenQuote = kind.OpenQuote
-kind_of token.OpenComment = kind.OpenComment
-kind_of token.BadEscape = kind.BadEscape
-kind_of token.NumberTooLarge = kind.NumberTooLarge
-kind_of token.NameTooLong = kind.NameTooLong
-kind_of token.LeftOutQuote = kind.LeftOutQuote
+abbrev pub read_kind_of : TokenFaultKind → ReadKind
+read_kind_of token.BadCharacter = kind.BadCharacter
+read_kind_of token.OpenQuote = kind.OpenQuote
+read_kind_of token.OpenComment = kind.OpenComment
+read_kind_of token.BadEscape = kind.BadEscape
+read_kind_of token.NumberTooLarge = kind.NumberTooLarge
+read_kind_of token.NameTooLong = kind.NameTooLong
+read_kind_of token.LeftOutQuote = kind.LeftOutQuote
 
 -- the fault of a kind at a place
 abbrev pub fault : ReadKind → ℕ → ReadFault
 fault k place = record { place = place; kind = k }
 
 -- the next token is t
-pub record IsNext (bytes : List ℕ) (c : Context) (t : Token) : Type 0 where
-  pub found : first_token bytes c.to ≡ Ok t
+pub record IsNext (bytes : List ℕ) (c : TokenContext) (t : Token) : Type 0 where
+  pub found : HasToken bytes c.to t
   pub some : t.kind ≢ Eof
 
 -- what may stand next: the next token, or any where that one has a fault or the text ends
-pub data MayBeNext (bytes : List ℕ) (c : Context) : Lexeme → Type 0 where
+pub data MayBeNext (bytes : List ℕ) (c : TokenContext) : Lexeme → Type 0 where
   next : (t : Token) → IsNext bytes c t → MayBeNext bytes c (lexeme bytes c t)
-  at_end : {y : Lexeme} (t : Token) → first_token bytes c.to ≡ Ok t → t.kind ≡ Eof → MayBeNext bytes c y
-  at_fault : {y : Lexeme} {e : TokenFault} → first_token bytes c.to ≡ Err e → MayBeNext bytes c y
+  at_end : {y : Lexeme} (t : Token) → HasToken bytes c.to t → t.kind ≡ Eof → MayBeNext bytes c y
+  at_fault : {y : Lexeme} {e : TokenFault} → HasTokenFault bytes c.to e → MayBeNext bytes c y
 
--- behind the token t, which stands behind xs, these levels are open. An operator's name opens one where what may stand next
--- makes neither an atom nor a functor of it
-pub record AreOpen (bytes : List ℕ) (xs : List Lexeme) (c : Context) (t : Token) (ls : List Level) : Type 0 where
+-- behind the token t, which stands behind xs, these levels are open. An operator's name opens one
+-- where what may stand next makes neither an atom nor a functor of it
+pub record AreOpen (bytes : List ℕ) (xs : List Lexeme) (c : TokenContext) (t : Token)
+    (ls : List Level) : Type 0 where
   pub following : Lexeme
   pub may : MayBeNext bytes (behind bytes c t) following
   pub wants : Wants true (xs ++ lexeme bytes c t ∷ following ∷ []) (following ∷ []) ls
@@ -54,34 +57,48 @@ pub record AreOpen (bytes : List ℕ) (xs : List Lexeme) (c : Context) (t : Toke
 abbrev pub EndsInMinus : List Lexeme → Type 0
 EndsInMinus xs = (ls : List Level) × Wants true xs (name false (codes "-") ∷ []) ls
 
--- Behind the tokens xs stands this fault, c being what the next token finds before it. It is met at its place, save that a
--- clause of too many nodes, which has the place of its first token, is met at its end.
-pub data FaultBehind (bytes : List ℕ) (xs : List Lexeme) (c : Context) : ℕ → ReadFault → Type 0 where
-  bad_token : {e : TokenFault} → first_token bytes c.to ≡ Err e → FaultBehind bytes xs c e.place (fault (kind_of e.kind) e.place)
-  too_deep : {t : Token} {ls : List Level} → IsNext bytes c t → AreOpen bytes xs c t ls → MOST_LEVELS < length ls → FaultBehind bytes xs c t.from (fault kind.TooDeep t.from)
-  many_arguments : {t : Token} {ls : List Level} {n : ℕ} → IsNext bytes c t → AreOpen bytes xs c t (in_argument n ∷ ls) → MOST_ARGUMENTS < n
+-- Behind the tokens xs stands this fault, c being what the next token finds before it. It is met at
+-- its place, save that a clause of too many nodes, which has the place of its first token, is met
+-- at its end.
+pub data FaultBehind (bytes : List ℕ) (xs : List Lexeme) (c : TokenContext) : ℕ → ReadFault
+    → Type 0 where
+  bad_token : {e : TokenFault} → HasTokenFault bytes c.to e
+      → FaultBehind bytes xs c e.place (fault (read_kind_of e.kind) e.place)
+  too_deep : {t : Token} {ls : List Level} → IsNext bytes c t → AreOpen bytes xs c t ls
+      → max_text_levels < length ls → FaultBehind bytes xs c t.from (fault kind.TooDeep t.from)
+  many_arguments : {t : Token} {ls : List Level} {n : ℕ} → IsNext bytes c t
+      → AreOpen bytes xs c t (in_argument n ∷ ls) → max_arguments < n
       → FaultBehind bytes xs c t.from (fault kind.ArityTooLarge t.from)
-  long_clause : {t : Token} → IsNext bytes c t → MOST_TOKENS ≤ c.tokens → FaultBehind bytes xs c t.from (fault kind.ClauseTooLong t.from)
-  large_number : {t : Token} → IsNext bytes c t → t.kind ≡ Number → INTEGER_OFFSET ≤ number_of bytes t → (is_tight c t ≡ true → EndsInMinus xs → ⊥)
+  long_clause : {t : Token} → IsNext bytes c t → max_clause_tokens ≤ c.tokens
+      → FaultBehind bytes xs c t.from (fault kind.ClauseTooLong t.from)
+  large_number : {t : Token} → IsNext bytes c t → t.kind ≡ Number
+      → integer_offset ≤ number_of bytes t → (is_tight c t ≡ true → EndsInMinus xs → ⊥)
       → FaultBehind bytes xs c t.from (fault kind.NumberTooLarge t.from)
-  clash : {t : Token} → IsNext bytes c t → (Viable true (xs ++ lexeme bytes c t ∷ []) → ⊥) → Viable false (xs ++ lexeme bytes c t ∷ [])
+  priority_clash : {t : Token} → IsNext bytes c t → (Viable true (xs ++ lexeme bytes c t ∷ []) → ⊥)
+      → Viable false (xs ++ lexeme bytes c t ∷ [])
       → FaultBehind bytes xs c t.from (fault kind.PriorityClash t.from)
-  unexpected : {t : Token} → IsNext bytes c t → (Viable true (xs ++ lexeme bytes c t ∷ []) → ⊥) → (Viable false (xs ++ lexeme bytes c t ∷ []) → ⊥)
+  unexpected_token : {t : Token} → IsNext bytes c t
+      → (Viable true (xs ++ lexeme bytes c t ∷ []) → ⊥)
+      → (Viable false (xs ++ lexeme bytes c t ∷ []) → ⊥)
       → FaultBehind bytes xs c t.from (fault kind.Unexpected t.from)
-  cut_off : {t : Token} → first_token bytes c.to ≡ Ok t → t.kind ≡ Eof → ((cs : List Written) → IsText true xs cs → ⊥)
+  cut_off : {t : Token} → HasToken bytes c.to t → t.kind ≡ Eof
+      → ((cs : List ReadClause) → IsText true xs cs → ⊥)
       → FaultBehind bytes xs c (length bytes) (fault kind.Unexpected (length bytes))
-  many_nodes : {t : Token} {m : Mark} (cs : List Written) (w : Written) → IsNext bytes c t → lexeme bytes c t ≡ end m → IsText true (xs ++ end m ∷ []) (cs ++ w ∷ [])
-      → MOST_NODES < nodes w.term → FaultBehind bytes xs c t.from (fault kind.TooManyNodes w.place)
+  many_nodes : {t : Token} {m : ClauseEnd} (cs : List ReadClause) (w : ReadClause)
+      → IsNext bytes c t → lexeme bytes c t ≡ end m → IsText true (xs ++ end m ∷ []) (cs ++ w ∷ [])
+      → max_term_nodes < nodes w.term
+      → FaultBehind bytes xs c t.from (fault kind.TooManyNodes w.place)
 
 -- the text has this fault: it stands behind tokens with which some text of the grammar begins
 pub record HasFault (bytes : List ℕ) (met : ℕ) (f : ReadFault) : Type 0 where
   pub tokens : List Lexeme
-  pub context : Context
-  pub before : GoesOn bytes nothing_before tokens context
+  pub context : TokenContext
+  pub before : GoesOn bytes text_start tokens context
   pub viable : Viable true tokens
   pub there : FaultBehind bytes tokens context met f
 
--- the order of faults at one place. Only those of rules and scripts come later, and no two of a token stand at one place
+-- the order of faults at one place. Only those of rules and scripts come later, and no two of a
+-- token stand at one place
 abbrev pub rank : ReadKind → ℕ
 rank kind.BadCharacter = 0
 rank kind.OpenQuote = 1
@@ -102,8 +119,10 @@ rank kind.BadClause = 15
 rank kind.ItemTooLarge = 16
 rank kind.BadScriptItem = 17
 
--- this is the text's first fault: every other one stands at a later place, or at the same place later in the order
+-- this is the text's first fault: every other one stands at a later place, or at the same place
+-- later in the order
 pub record HasFirstFault (bytes : List ℕ) (f : ReadFault) : Type 0 where
   pub met : ℕ
   pub there : HasFault bytes met f
-  pub first : (other : ℕ) (g : ReadFault) → HasFault bytes other g → (met < other) ⊎ ((met ≡ other) × (rank f.kind ≤ rank g.kind))
+  pub first : (other : ℕ) (g : ReadFault) → HasFault bytes other g → (met < other)
+      ⊎ ((met ≡ other) × (rank f.kind ≤ rank g.kind))

@@ -1,9 +1,9 @@
 -- The forms of the clauses of rules and of scripts.
-use Rattle.std.specs.Prelude.{◌≡◌, List, ◌∷◌, ◌++◌, Option, Some, None, cond, codes}
+use Rattle.std.specs.Prelude.{◌≡◌, List, ◌∷◌, ◌++◌, Option, Some, None, if◌then◌else◌, codes}
 use Rattle.std.specs.List.{filter_map}
 use Rattle.std.specs.Str.{bytes_eq}
 use Rattle.ml_term.specs.Tree.{Tree, compound, no_trees, tree, compound_1, compound_2}
-use Rattle.ml_reader.specs.Lexemes.{Written}
+use Rattle.ml_reader.specs.Lexemes.{ReadClause}
 
 -- `:- T`, `?- T`, `HEAD :- BODY`, and every other term `HEAD`
 pub data Form : Type 0 where
@@ -14,8 +14,11 @@ pub data Form : Type 0 where
 
 -- the form of a term
 abbrev pub form : Tree → Form
-form (compound f (tree t no_trees)) = cond (bytes_eq (codes ":-") f) (directive t) (cond (bytes_eq (codes "?-") f) (query t) (fact (compound_1 f t)))
-form (compound f (tree t (tree u no_trees))) = cond (bytes_eq (codes ":-") f) (rule t u) (fact (compound_2 f t u))
+form (compound f (tree t no_trees)) =
+    if bytes_eq (codes ":-") f then directive t
+    else (if bytes_eq (codes "?-") f then query t else fact (compound_1 f t))
+form (compound f (tree t (tree u no_trees))) =
+    if bytes_eq (codes ":-") f then rule t u else fact (compound_2 f t u)
 form t = fact t
 
 -- the T of `:- T`
@@ -26,10 +29,10 @@ directive_of (rule h b) = None
 directive_of (fact h) = None
 
 -- the terms T of the clauses `:- T`
-abbrev pub directives : List Written → List Tree
+abbrev pub directives : List ReadClause → List Tree
 directives cs = filter_map (λ c. directive_of (form c.term)) cs
 
 -- behind the clauses `before`, the clause c comes next
-pub record ComesNext (cs before : List Written) (c : Written) : Type 0 where
-  pub after : List Written
+pub record ComesNext (cs before : List ReadClause) (c : ReadClause) : Type 0 where
+  pub after : List ReadClause
   pub whole : cs ≡ before ++ c ∷ after

@@ -1,13 +1,20 @@
--- Levels. One is opened by each `(`, `[` and `{` until its closing one, also where that follows at once, and by each prefix
--- or infix operator until its right operand ends.
+-- Levels. One is opened by each `(`, `[` and `{` until its closing one, also where that follows at
+-- once, and by each prefix or infix operator until its right operand ends.
 use Rattle.std.specs.Prelude.{◌≡◌, ℕ, ◌+◌, max, Bool, true, false, not, IsTrue, List, [], ◌∷◌, Some}
 use Rattle.ml_term.specs.Tree.{Tree, Trees}
-use Rattle.ml_reader.specs.Lexemes.{Mark, Written, Lexeme, paren, bracket, brace, bar, comma, end}
-use Rattle.ml_reader.specs.Operators.{Operator, prefix_of, infix_at, closes, fits}
-use Rattle.ml_reader.specs.Grammar.{Word, plain, brackets, curlies, joins, Derives, a_variable, a_number, a_negative, in_braces, an_atom, a_compound, in_parens, a_list, a_prefix, an_infix, Arguments, last_argument, argument, Elements, last_element, before_bar, element, IsText, no_clause, a_clause}
+use Rattle.ml_reader.specs.Lexemes.{ClauseEnd, ReadClause, Lexeme, open_paren, open_list}
+use Rattle.ml_reader.specs.Lexemes.{open_curly, head_tail_separator, comma, end}
+use Rattle.ml_reader.specs.Operators.{Operator, max_priority, max_argument_priority, prefix_of}
+use Rattle.ml_reader.specs.Operators.{infix_at, closes, priority_fits}
+use Rattle.ml_reader.specs.Grammar.{Word, plain, brackets, curlies, joins, Derives, a_variable}
+use Rattle.ml_reader.specs.Grammar.{a_number, a_negative, in_braces, an_atom, a_compound, in_parens}
+use Rattle.ml_reader.specs.Grammar.{a_list, a_prefix, an_infix, Arguments, last_argument, argument}
+use Rattle.ml_reader.specs.Grammar.{Elements, last_element, before_bar, element, IsText, no_clause}
+use Rattle.ml_reader.specs.Grammar.{a_clause}
 
--- a level that is open: parentheses or braces round a term, an argument of a compound by its number from 1, an element of a
--- list, what stands behind a list's bar, or an operator's right operand by the greatest priority that it may have
+-- a level that is open: parentheses or braces round a term, an argument of a compound by its number
+-- from 1, an element of a list, what stands behind a list's bar, or an operator's right operand by
+-- the greatest priority that it may have
 pub data Level : Type 0 where
   enclosed : Level
   in_argument : ℕ → Level
@@ -24,61 +31,82 @@ commas_inside (l ∷ ls) = false
 
 -- the greatest priority of a term inside these levels, the innermost first
 abbrev pub greatest_inside : List Level → ℕ
-greatest_inside [] = 1200
-greatest_inside (enclosed ∷ ls) = 1200
+greatest_inside [] = max_priority
+greatest_inside (enclosed ∷ ls) = max_priority
 greatest_inside (right_of p ∷ ls) = p
-greatest_inside (l ∷ ls) = 999
+greatest_inside (l ∷ ls) = max_argument_priority
 
--- in front of ys, with which the tokens xs end, a term may begin, and these levels are open, the innermost first; b:
--- priorities count
+-- in front of ys, with which the tokens xs end, a term may begin, and these levels are open, the
+-- innermost first; b: priorities count
 pub data Wants (b : Bool) (xs : List Lexeme) : List Lexeme → List Level → Type 0 where
   at_first : Wants b xs xs []
-  behind_clause : {ys zs : List Lexeme} {m : Mark} {p : ℕ} {t : Tree} → Wants b xs ys [] → Derives b true ys (end m ∷ zs) p t → IsTrue (fits b p 1200) → Wants b xs zs []
-  behind_paren : {ys : List Lexeme} {ls : List Level} {k : Bool} → Wants b xs (paren k ∷ ys) ls → Wants b xs ys (enclosed ∷ ls)
-  behind_brace : {ys : List Lexeme} {ls : List Level} → Wants b xs (brace ∷ ys) ls → Wants b xs ys (enclosed ∷ ls)
-  behind_bracket : {ys : List Lexeme} {ls : List Level} → Wants b xs (bracket ∷ ys) ls → Wants b xs ys (in_list ∷ ls)
-  behind_functor : {ys zs : List Lexeme} {ls : List Level} {m : Bool} {f : List ℕ} → Wants b xs ys ls → Word ys (paren true ∷ zs) m f → Wants b xs zs (in_argument 1 ∷ ls)
-  behind_argument : {ys zs : List Lexeme} {ls : List Level} {n p : ℕ} {t : Tree} → Wants b xs ys (in_argument n ∷ ls) → Derives b false ys (comma ∷ zs) p t → IsTrue (fits b p 999)
+  behind_clause : {ys zs : List Lexeme} {m : ClauseEnd} {p : ℕ} {t : Tree} → Wants b xs ys []
+      → Derives b true ys (end m ∷ zs) p t → IsTrue (priority_fits b p max_priority)
+      → Wants b xs zs []
+  behind_paren : {ys : List Lexeme} {ls : List Level} {k : Bool} → Wants b xs (open_paren k ∷ ys) ls
+      → Wants b xs ys (enclosed ∷ ls)
+  behind_brace : {ys : List Lexeme} {ls : List Level} → Wants b xs (open_curly ∷ ys) ls
+      → Wants b xs ys (enclosed ∷ ls)
+  behind_bracket : {ys : List Lexeme} {ls : List Level} → Wants b xs (open_list ∷ ys) ls
+      → Wants b xs ys (in_list ∷ ls)
+  behind_functor : {ys zs : List Lexeme} {ls : List Level} {m : Bool} {f : List ℕ}
+      → Wants b xs ys ls → Word ys (open_paren true ∷ zs) m f → Wants b xs zs (in_argument 1 ∷ ls)
+  behind_argument : {ys zs : List Lexeme} {ls : List Level} {n p : ℕ} {t : Tree}
+      → Wants b xs ys (in_argument n ∷ ls) → Derives b false ys (comma ∷ zs) p t
+      → IsTrue (priority_fits b p max_argument_priority)
       → Wants b xs zs (in_argument (1 + n) ∷ ls)
-  behind_element : {ys zs : List Lexeme} {ls : List Level} {p : ℕ} {t : Tree} → Wants b xs ys (in_list ∷ ls) → Derives b false ys (comma ∷ zs) p t → IsTrue (fits b p 999)
+  behind_element : {ys zs : List Lexeme} {ls : List Level} {p : ℕ} {t : Tree}
+      → Wants b xs ys (in_list ∷ ls) → Derives b false ys (comma ∷ zs) p t
+      → IsTrue (priority_fits b p max_argument_priority)
       → Wants b xs zs (in_list ∷ ls)
-  behind_bar : {ys zs : List Lexeme} {ls : List Level} {p : ℕ} {t : Tree} → Wants b xs ys (in_list ∷ ls) → Derives b false ys (bar ∷ zs) p t → IsTrue (fits b p 999)
+  behind_bar : {ys zs : List Lexeme} {ls : List Level} {p : ℕ} {t : Tree}
+      → Wants b xs ys (in_list ∷ ls) → Derives b false ys (head_tail_separator ∷ zs) p t
+      → IsTrue (priority_fits b p max_argument_priority)
       → Wants b xs zs (in_tail ∷ ls)
-  behind_prefix : {y : Lexeme} {ys zs : List Lexeme} {ls : List Level} {m : Bool} {f : List ℕ} {o : Operator} → Wants b xs ys ls → Word ys (y ∷ zs) m f → prefix_of f ≡ Some o
-      → IsTrue (not (joins m (y ∷ zs))) → closes y ≡ false → IsTrue (fits b o.priority (greatest_inside ls)) → Wants b xs (y ∷ zs) (right_of o.right ∷ ls)
-  behind_infix : {x : Lexeme} {ys zs : List Lexeme} {ls : List Level} {o : Operator} {p : ℕ} {t : Tree} → Wants b xs ys ls → Derives b (commas_inside ls) ys (x ∷ zs) p t
-      → infix_at (commas_inside ls) x ≡ Some o → IsTrue (fits b p o.left) → IsTrue (fits b o.priority (greatest_inside ls)) → Wants b xs zs (right_of o.right ∷ ls)
+  behind_prefix : {y : Lexeme} {ys zs : List Lexeme} {ls : List Level} {m : Bool} {f : List ℕ}
+      {o : Operator} → Wants b xs ys ls → Word ys (y ∷ zs) m f → prefix_of f ≡ Some o
+      → IsTrue (not (joins m (y ∷ zs))) → closes y ≡ false
+      → IsTrue (priority_fits b o.priority (greatest_inside ls))
+      → Wants b xs (y ∷ zs) (right_of o.right ∷ ls)
+  behind_infix : {x : Lexeme} {ys zs : List Lexeme} {ls : List Level} {o : Operator} {p : ℕ}
+      {t : Tree} → Wants b xs ys ls → Derives b (commas_inside ls) ys (x ∷ zs) p t
+      → infix_at (commas_inside ls) x ≡ Some o → IsTrue (priority_fits b p o.left)
+      → IsTrue (priority_fits b o.priority (greatest_inside ls))
+      → Wants b xs zs (right_of o.right ∷ ls)
 
 -- how many levels a name opens: brackets with nothing between them are one
-abbrev pub opened_by : {xs ys : List Lexeme} {m : Bool} {f : List ℕ} → Word xs ys m f → ℕ
-opened_by plain = 0
-opened_by brackets = 1
-opened_by curlies = 1
+abbrev pub levels_of_name : {xs ys : List Lexeme} {m : Bool} {f : List ℕ} → Word xs ys m f → ℕ
+levels_of_name plain = 0
+levels_of_name brackets = 1
+levels_of_name curlies = 1
 
 abbrev mutual
   -- how many levels a derivation has open at most at once
-  pub deepest : {b c : Bool} {xs ys : List Lexeme} {p : ℕ} {t : Tree} → Derives b c xs ys p t → ℕ
-  deepest a_variable = 0
-  deepest a_number = 0
-  deepest (a_negative w) = 0
-  deepest (in_braces d l) = 1 + deepest d
-  deepest (an_atom w a) = opened_by w
-  deepest (a_compound w ds) = 1 + deepest_arguments ds
-  deepest (in_parens d l) = 1 + deepest d
-  deepest (a_list ds) = 1 + deepest_elements ds
-  deepest (a_prefix w e n d l) = 1 + deepest d
-  deepest (an_infix d e l d' l') = max (deepest d) (1 + deepest d')
+  pub most_levels : {b c : Bool} {xs ys : List Lexeme} {p : ℕ} {t : Tree}
+      → Derives b c xs ys p t → ℕ
+  most_levels a_variable = 0
+  most_levels a_number = 0
+  most_levels (a_negative w) = 0
+  most_levels (in_braces d l) = 1 + most_levels d
+  most_levels (an_atom w a) = levels_of_name w
+  most_levels (a_compound w ds) = 1 + most_levels_of_arguments ds
+  most_levels (in_parens d l) = 1 + most_levels d
+  most_levels (a_list ds) = 1 + most_levels_of_elements ds
+  most_levels (a_prefix w e n d l) = 1 + most_levels d
+  most_levels (an_infix d e l d' l') = max (most_levels d) (1 + most_levels d')
 
-  pub deepest_arguments : {b : Bool} {xs ys : List Lexeme} {ts : Trees} → Arguments b xs ys ts → ℕ
-  deepest_arguments (last_argument d l) = deepest d
-  deepest_arguments (argument d l ds) = max (deepest d) (deepest_arguments ds)
+  pub most_levels_of_arguments : {b : Bool} {xs ys : List Lexeme} {ts : Trees}
+      → Arguments b xs ys ts → ℕ
+  most_levels_of_arguments (last_argument d l) = most_levels d
+  most_levels_of_arguments (argument d l ds) = max (most_levels d) (most_levels_of_arguments ds)
 
-  pub deepest_elements : {b : Bool} {xs ys : List Lexeme} {t : Tree} → Elements b xs ys t → ℕ
-  deepest_elements (last_element d l) = deepest d
-  deepest_elements (before_bar d l d' l') = max (deepest d) (deepest d')
-  deepest_elements (element d l ds) = max (deepest d) (deepest_elements ds)
+  pub most_levels_of_elements : {b : Bool} {xs ys : List Lexeme} {t : Tree} → Elements b xs ys t → ℕ
+  most_levels_of_elements (last_element d l) = most_levels d
+  most_levels_of_elements (before_bar d l d' l') = max (most_levels d) (most_levels d')
+  most_levels_of_elements (element d l ds) = max (most_levels d) (most_levels_of_elements ds)
 
 -- the same over all clauses of a text
-abbrev pub deepest_in : {b : Bool} {xs : List Lexeme} {cs : List Written} → IsText b xs cs → ℕ
-deepest_in no_clause = 0
-deepest_in (a_clause d l i) = max (deepest d) (deepest_in i)
+abbrev pub most_levels_of_text : {b : Bool} {xs : List Lexeme} {cs : List ReadClause}
+    → IsText b xs cs → ℕ
+most_levels_of_text no_clause = 0
+most_levels_of_text (a_clause d l i) = max (most_levels d) (most_levels_of_text i)

@@ -1,10 +1,13 @@
 -- The table of operators.
-use Rattle.std.specs.Prelude.{ℕ, Bool, true, false, ◌||◌, nat_le, if◌then◌else◌, List, [], ◌∷◌, Option, Some, None, codes, is_some}
+use Rattle.std.specs.Prelude.{ℕ, Bool, true, false, ◌||◌, nat_le, if◌then◌else◌, List, [], ◌∷◌}
+use Rattle.std.specs.Prelude.{Option, Some, None, codes, is_some}
 use Rattle.std.specs.Str.{bytes_eq}
 use Rattle.std.specs.List.{list_any}
-use Rattle.ml_reader.specs.Lexemes.{Lexeme, name, close, unbracket, unbrace, bar, comma, end}
+use Rattle.ml_reader.specs.Lexemes.{Lexeme, name, close_paren, close_list, close_curly}
+use Rattle.ml_reader.specs.Lexemes.{head_tail_separator, comma, end}
 
--- an operator: its name, its priority, the greatest priority on its left (infix operators) and on its right
+-- an operator: its name, its priority, the greatest priority on its left (infix operators) and on
+-- its right
 pub record Operator : Type 0 where
   pub name : List ℕ
   pub priority : ℕ
@@ -15,7 +18,8 @@ pub record Operator : Type 0 where
 abbrev pub operator : List ℕ → ℕ → ℕ → ℕ → Operator
 operator f p l r = record { name = f; priority = p; left = l; right = r }
 
--- a row of the table: the names of operators, their priority, and the greatest priorities on their left and right
+-- a row of the table: the names of operators, their priority, and the greatest priorities on their
+-- left and right
 pub record Row : Type 0 where
   pub names : List (List ℕ)
   pub priority : ℕ
@@ -26,10 +30,19 @@ pub record Row : Type 0 where
 abbrev pub row : List (List ℕ) → ℕ → ℕ → ℕ → Row
 row names p l r = record { names = names; priority = p; left = l; right = r }
 
+-- the greatest priority of a term
+abbrev pub max_priority : ℕ
+max_priority = 1200
+
+-- the greatest priority of an argument of a compound and of an element of a list
+abbrev pub max_argument_priority : ℕ
+max_argument_priority = 999
+
 -- the operators that compare
 abbrev pub comparisons : List (List ℕ)
 comparisons =
-    codes "=" ∷ codes "\\=" ∷ codes "==" ∷ codes "\\==" ∷ codes "@<" ∷ codes "@=<" ∷ codes "@>" ∷ codes "@>=" ∷ codes "=.." ∷ codes "is" ∷ codes "=:="
+    codes "=" ∷ codes "\\=" ∷ codes "==" ∷ codes "\\==" ∷ codes "@<" ∷ codes "@=<" ∷ codes "@>"
+    ∷ codes "@>=" ∷ codes "=.." ∷ codes "is" ∷ codes "=:="
     ∷ codes "=\\=" ∷ codes "<" ∷ codes "=<" ∷ codes ">" ∷ codes ">=" ∷ []
 
 -- the infix operators
@@ -61,17 +74,18 @@ abbrev pub is_among : List (List ℕ) → List ℕ → Bool
 is_among names f = list_any (λ n. bytes_eq n f) names
 
 -- the operator of a name in a table
-abbrev pub named : List Row → List ℕ → Option Operator
-named [] f = None
-named (r ∷ rs) f = if is_among r.names f then Some (operator f r.priority r.left r.right) else named rs f
+abbrev pub find_operator : List Row → List ℕ → Option Operator
+find_operator [] f = None
+find_operator (r ∷ rs) f =
+    if is_among r.names f then Some (operator f r.priority r.left r.right) else find_operator rs f
 
 -- the infix operator of a name
 unfoldable pub infix_of : List ℕ → Option Operator
-infix_of f = named infixes f
+infix_of f = find_operator infixes f
 
 -- the prefix operator of a name
 unfoldable pub prefix_of : List ℕ → Option Operator
-prefix_of f = named prefixes f
+prefix_of f = find_operator prefixes f
 
 -- whether a name is an operator
 abbrev pub is_operator : List ℕ → Bool
@@ -85,15 +99,15 @@ infix_at c x = None
 
 -- the token ends an operand
 abbrev pub closes : Lexeme → Bool
-closes close = true
-closes unbracket = true
-closes unbrace = true
-closes bar = true
+closes close_paren = true
+closes close_list = true
+closes close_curly = true
+closes head_tail_separator = true
 closes comma = true
 closes (end n) = true
 closes x = false
 
 -- whether an operand of priority p may stand where at most q may; b: priorities count
-abbrev pub fits : Bool → ℕ → ℕ → Bool
-fits true p q = nat_le p q
-fits false p q = true
+abbrev pub priority_fits : Bool → ℕ → ℕ → Bool
+priority_fits true p q = nat_le p q
+priority_fits false p q = true

@@ -29,15 +29,18 @@ pub enum ReadKind {
     ClauseTooLong,
     /// The first token with which no text goes on, though some text would if no priority counted.
     PriorityClash,
-    /// The first token with which no text goes on, whatever the priorities; or the end of the text inside a clause.
+    /// The first token with which no text goes on, whatever the priorities; or the end of the text
+    /// inside a clause.
     Unexpected,
     /// A clause of more than 4,096 nodes. The place of its first token.
     TooManyNodes,
-    /// A term `:- T` that declares nothing, or what can't be declared. The place of its first token.
+    /// A term `:- T` that declares nothing, or what can't be declared. The place of its first
+    /// token.
     BadDeclaration,
     /// A predicate that was declared before. The place of the declaration's first token.
     TwiceDeclared,
-    /// A clause whose head or body can't be one, or one that its relation can't hold. The place of its first token.
+    /// A clause whose head or body can't be one, or one that its relation can't hold. The place of
+    /// its first token.
     BadClause,
     /// An item of more than 4,096 canonical bytes. The place of its first token.
     ItemTooLarge,

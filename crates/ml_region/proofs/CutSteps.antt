@@ -1,24 +1,25 @@
 -- The steps of a cut: a spare page, an entry for it, and the items that go over.
-use Rattle.std.proofs.Common.{◌≡◌, ℕ, zero, suc, ◌+◌, ◌-◌, ◌<◌, ◌≤◌, ◌==◌, Bool, true, false, cond, nat_lt, inl, inr, List, [], ◌∷◌, ◌++◌, length, get_or, set, take, refl, sym, ap, subst, ◌∙◌, arith, length-append}
+use Rattle.std.proofs.Common.{◌≡◌, ℕ, zero, suc, ◌+◌, ◌-◌, ◌<◌, ◌≤◌, ◌==◌, Bool, true, false, cond, nat_lt, inl, inr, List, [], ◌∷◌, ◌++◌, length, get_or, set}
+use Rattle.std.proofs.Common.{take, refl, sym, ap, subst, ◌∙◌, arith, length-append}
 use Rattle.std.specs.Prelude.{Result, Ok, Err, OnErr, Contains}
 use Rattle.std.specs.List.{insert}
 use Rattle.std.proofs.Math.ListN.{length-set}
 use Rattle.std.proofs.lemmas.List.{length-take-le, get_or-set_other, get_or_read}
 use Rattle.std.proofs.lemmas.List.Edits.{length-insert, get_or-insert_at}
-use Rattle.ml_region.proofs.Lists.{map_insert}
+use Rattle.ml_region.proofs.ListInsertions.{map_insert}
 use Rattle.std.proofs.lemmas.Bool.{cases_eq, eq-eqb, eqb-true, ne_eqb, lt-ltb, le-ltb, ltb-true, ltb-false}
 use Rattle.std.proofs.lemmas.List.Sums.{sum_by_push}
 use Rattle.ml_region.specs.Prefixes.{bits_at}
 use Rattle.ml_region.specs.Listing.{Entry, IsListing, IsNewPrefix, IsNewSlot, IsWithEntry, prefixes_of, slot_at}
 use Rattle.ml_region.specs.Regions.{Region, region_at, items_at, keys_of, keys_at, IsWellPlaced}
 use Rattle.ml_region.specs.Changes.{IsCut, items_below, items_beside}
-use Rattle.ml_region.specs.Stored.{page_at, regions_of, frees, uses, AreShared, IsStored}
+use Rattle.ml_region.specs.inside.Stored.{page_at, regions_of, free_count, use_count, AreShared, IsStored}
 use Rattle.ml_region.specs.declared.item.Item.{Item}
 use Rattle.ml_region.proofs.StoredRegions.{regions_length, regions_prefixes, prefixes_length}
-use Rattle.ml_region.proofs.Found.{items_of_page, key_of_item}
-use Rattle.ml_region.proofs.Standing.{keys_length}
-use Rattle.ml_region.proofs.Listing.{listing_insert}
-use Rattle.ml_region.proofs.Cutting.{IsCutting, cutting_is_new}
+use Rattle.ml_region.proofs.FoundItems.{items_of_page, key_of_item}
+use Rattle.ml_region.proofs.RegionItems.{keys_length}
+use Rattle.ml_region.proofs.ListingChanges.{listing_insert}
+use Rattle.ml_region.proofs.RegionCuts.{IsCutting, cutting_is_new}
 use Rattle.ml_region.proofs.CutStored.{free_within, free_is_new, set_unused, same_pages, cut_stored}
 
 pub on_err : {T E X : Type 0} (r : Result T E) → X → OnErr r X
@@ -26,16 +27,18 @@ on_err (Ok t) x = tt
 on_err (Err e) x = x
 
 -- a page without items more, and its slot
-pub spare_shared : (entries : List Entry) (free : List ℕ) (pages : ℕ) → length free ≡ 0 → AreShared entries free pages → AreShared entries (free ++ pages ∷ []) (pages + 1)
+pub spare_shared : (entries : List Entry) (free : List ℕ) (pages : ℕ) → length free ≡ 0 → AreShared entries free pages →
+    AreShared entries (free ++ pages ∷ []) (pages + 1)
 spare_shared entries free pages none s = record {
   once = λ t. by t (nat_lt t pages) refl (s.once t);
   all = omega (arith, s.all, length-append free (pages ∷ []));
 }
   where
-    push : (t : ℕ) → frees t (free ++ pages ∷ []) ≡ frees t free + cond (pages == t) 1 0
+    push : (t : ℕ) → free_count t (free ++ pages ∷ []) ≡ free_count t free + cond (pages == t) 1 0
     push t = sum_by_push (λ s. cond (s == t) 1 0) free pages
 
-    by : (t : ℕ) (b : Bool) → b ≡ nat_lt t pages → uses t entries + frees t free ≡ cond b 1 0 → uses t entries + frees t (free ++ pages ∷ []) ≡ cond (nat_lt t (pages + 1)) 1 0
+    by : (t : ℕ) (b : Bool) → b ≡ nat_lt t pages → use_count t entries + free_count t free ≡ cond b 1 0 →
+        use_count t entries + free_count t (free ++ pages ∷ []) ≡ cond (nat_lt t (pages + 1)) 1 0
     by t true e f =
         let l : t < pages = ltb-true t pages (sym e) in
         let other : ◌≡◌ {A = ℕ} (cond (pages == t) 1 0) 0 = ap (λ b. cond b 1 0) (ne_eqb pages t (λ g. omega arith)) in
@@ -93,15 +96,18 @@ cutting regions i j n key h g e longer within =
     at (k ∷ ks) zero key h e = e
     at (k ∷ ks) (suc j) key h e = at ks j key (omega arith) e
 
-pub cutting_new_prefix : (entries : List Entry) (pages : List (List Item)) (free : List ℕ) (reserved i : ℕ) (key p : List Bool) → IsStored entries pages free reserved
+pub cutting_new_prefix : (entries : List Entry) (pages : List (List Item)) (free : List ℕ) (reserved i : ℕ) (key p : List Bool) →
+    IsStored entries pages free reserved
     → IsCutting (regions_of entries pages) i key p → IsNewPrefix entries p
 cutting_new_prefix entries pages free reserved i key p stored cut m h e =
-    cutting_is_new (regions_of entries pages) i m key p stored.placed cut (omega (arith, regions_length entries pages)) (ap (λ ps. bits_at ps m) (regions_prefixes entries pages) ∙ e)
+    cutting_is_new (regions_of entries pages) i m key p stored.placed cut (omega (arith, regions_length entries pages))
+    (ap (λ ps. bits_at ps m) (regions_prefixes entries pages) ∙ e)
 
 pub last_is_new : (entries : List Entry) (pages : List (List Item)) (free : List ℕ) (reserved slot : ℕ) → IsStored entries pages free reserved → 0 < length free
     → slot ≡ get_or free (length free - 1) slot → IsNewSlot entries slot × (slot < length pages)
 last_is_new entries pages free reserved slot stored some is =
-    let shared : AreShared entries (take (length free - 1) free ++ slot ∷ []) (length pages) = subst (λ f. AreShared entries f (length pages)) (last_split free slot some is) stored.shared in
+    let shared : AreShared entries (take (length free - 1) free ++ slot ∷ []) (length pages) =
+    subst (λ f. AreShared entries f (length pages)) (last_split free slot some is) stored.shared in
     (free_is_new entries (take (length free - 1) free) slot (length pages) shared, free_within entries (take (length free - 1) free) slot (length pages) shared)
 
 -- the page of the region that is cut, once the spare page is empty
@@ -109,7 +115,8 @@ pub page_beside : (entries : List Entry) (pages : List (List Item)) (slot i : �
     → page_at (set pages slot []) (slot_at entries i) ≡ items_at (regions_of entries pages) i
 page_beside entries pages slot i new h = get_or-set_other pages slot (slot_at entries i) [] [] (new i h) ∙ sym (items_of_page entries pages i h)
 
-pub cut_end : (entries : List Entry) (pages : List (List Item)) (free : List ℕ) (reserved slot from i : ℕ) (key p : List Bool) (new : List (List Item)) (after : List Entry) (rest : List ℕ) (room : ℕ)
+pub cut_end : (entries : List Entry) (pages : List (List Item)) (free : List ℕ) (reserved slot from i : ℕ) (key p : List Bool) (new : List (List Item))
+    (after : List Entry) (rest : List ℕ) (room : ℕ)
     → IsStored entries pages free reserved → 0 < length free → slot ≡ get_or free (length free - 1) slot → IsCutting (regions_of entries pages) i key p
     → IsWithEntry entries (record { prefix = p; slot = slot }) after → rest ≡ take (length free - 1) free → reserved ≤ room → from ≡ slot_at entries i
     → new ≡ set (set (set pages slot []) from (items_beside p (page_at (set pages slot []) from))) slot (items_below p (page_at (set pages slot []) from))
@@ -127,14 +134,17 @@ cut_end entries pages free reserved slot from i key p new after rest room stored
     } in
     let cut' : IsCutting (regions_of entries empty) i key p = subst (λ (q : List Region). IsCutting q i key p) (sym regions) cut in
     let both = cut_stored entries empty rest reserved slot i with_entry.place key p stored' cut' with_entry.fits in
-    let new_is : new ≡ set (set empty (slot_at entries i) (items_beside p (page_at empty (slot_at entries i)))) slot (items_below p (page_at empty (slot_at entries i))) =
+    let new_is : new ≡ set (set empty (slot_at entries i) (items_beside p (page_at empty (slot_at entries i)))) slot
+    (items_below p (page_at empty (slot_at entries i))) =
     same ∙ ap (λ s. set (set empty s (items_beside p (page_at empty s))) slot (items_below p (page_at empty s))) at in
     let whole : IsStored after new rest reserved =
-    subst (λ (e : List Entry). IsStored e new rest reserved) (sym with_entry.same) (subst (λ ps. IsStored (insert entries with_entry.place (record { prefix = p; slot = slot })) ps rest reserved) (sym new_is) both.0) in (
+    subst (λ (e : List Entry). IsStored e new rest reserved) (sym with_entry.same)
+    (subst (λ ps. IsStored (insert entries with_entry.place (record { prefix = p; slot = slot })) ps rest reserved) (sym new_is) both.0) in (
       record { shared = whole.shared; room = omega (arith, whole.room); placed = whole.placed },
       subst (λ (q : List Region). IsCut q i p (regions_of after new)) regions
           (subst (λ (e : List Entry). IsCut (regions_of entries empty) i p (regions_of e new)) (sym with_entry.same)
-          (subst (λ ps. IsCut (regions_of entries empty) i p (regions_of (insert entries with_entry.place (record { prefix = p; slot = slot })) ps)) (sym new_is) both.1)),
+          (subst (λ ps. IsCut (regions_of entries empty) i p (regions_of (insert entries with_entry.place (record { prefix = p; slot = slot })) ps))
+          (sym new_is) both.1)),
     )
 
 -- ---- the prefixes once there is an entry more
@@ -142,7 +152,8 @@ cut_end entries pages free reserved slot from i key p new after rest room stored
 pub length_with : (entries : List Entry) (e : Entry) (after : List Entry) → IsWithEntry entries e after → length after ≡ length entries + 1
 length_with entries e after w = ap length w.same ∙ length-insert entries w.place e (omega (arith, w.fits.within, prefixes_length entries))
 
-pub listing_with : (entries : List Entry) (e : Entry) (after : List Entry) → IsListing entries → IsNewSlot entries e.slot → IsWithEntry entries e after → IsListing after
+pub listing_with : (entries : List Entry) (e : Entry) (after : List Entry) → IsListing entries → IsNewSlot entries e.slot → IsWithEntry entries e after →
+    IsListing after
 listing_with entries e after listing new w = subst IsListing (sym w.same) (listing_insert entries e w.place listing w.fits new)
 
 -- the new one is among them
@@ -156,7 +167,8 @@ among_with entries e after w =
     )
 
 -- the key of an item of a page that stays as it was
-pub same_key : (pages more : List (List Item)) (from j : ℕ) (p q : List Item) (x y : Item) → from < length pages → from < length more → page_at more from ≡ page_at pages from
+pub same_key : (pages more : List (List Item)) (from j : ℕ) (p q : List Item) (x y : Item) → from < length pages → from < length more →
+    page_at more from ≡ page_at pages from
     → p ≡ get_or pages from p → q ≡ get_or more from q → j < length p → x ≡ get_or p j x → y ≡ get_or q j y → y.key.bits ≡ x.key.bits
 same_key pages more from j p q x y h g same is_p is_q within is_x is_y =
     let alike : p ≡ q = get_or_read pages from p h is_p [] ∙ sym same ∙ sym (get_or_read more from q g is_q []) in

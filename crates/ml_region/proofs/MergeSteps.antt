@@ -1,5 +1,6 @@
 -- The steps of a merge: the items that are poured, the entry that goes, and its slot that becomes free.
-use Rattle.std.proofs.Common.{◌≡◌, ◌≢◌, ◌⊎◌, ℕ, zero, suc, ◌+◌, ◌<◌, ◌≤◌, ◌==◌, Bool, List, [], ◌∷◌, ◌++◌, length, get_or, set, cond, refl, sym, ap, subst, ◌∙◌, arith, length-append}
+use Rattle.std.proofs.Common.{◌≡◌, ◌≢◌, ◌⊎◌, ℕ, zero, suc, ◌+◌, ◌<◌, ◌≤◌, ◌==◌, Bool, List, [], ◌∷◌, ◌++◌, length, get_or, set, cond, refl, sym, ap, subst, ◌∙◌}
+use Rattle.std.proofs.Common.{arith, length-append}
 use Rattle.std.specs.Prelude.{Contains}
 use Rattle.std.specs.List.{remove}
 use Rattle.std.specs.List.Sorted.{IsPermutation}
@@ -13,15 +14,15 @@ use Rattle.ml_region.specs.Prefixes.{IsParent}
 use Rattle.ml_region.specs.Listing.{Entry, IsSlotOfParent, prefix_at, slot_at}
 use Rattle.ml_region.specs.Regions.{Region, region_prefixes, region_at, items_at, keys_of, keys_at, with_items, IsWellPlaced}
 use Rattle.ml_region.specs.Changes.{IsMerged}
-use Rattle.ml_region.specs.Moves.{IsPoured}
-use Rattle.ml_region.specs.Stored.{page_at, region_of, regions_of, AreShared, IsStored}
+use Rattle.ml_region.specs.inside.Moves.{IsPoured}
+use Rattle.ml_region.specs.inside.Stored.{page_at, region_of, regions_of, AreShared, IsStored}
 use Rattle.ml_region.specs.declared.item.Item.{Item}
-use Rattle.ml_region.proofs.Lists.{map_remove}
-use Rattle.ml_region.proofs.Owners.{one_owner}
+use Rattle.ml_region.proofs.ListInsertions.{map_remove}
+use Rattle.ml_region.proofs.OwnerSearch.{one_owner}
 use Rattle.ml_region.proofs.StoredRegions.{regions_length, regions_prefixes, set_page}
-use Rattle.ml_region.proofs.Placed.{region_at_other}
-use Rattle.ml_region.proofs.Found.{items_of_page, prefix_of_entry}
-use Rattle.ml_region.proofs.Merging.{IsMerging, parent_before, placed_merged}
+use Rattle.ml_region.proofs.PlacedRegions.{region_at_other}
+use Rattle.ml_region.proofs.FoundItems.{items_of_page, prefix_of_entry}
+use Rattle.ml_region.proofs.RegionMerges.{IsMerging, parent_before, placed_merged}
 
 -- ---- slots
 
@@ -39,8 +40,15 @@ shared_freed entries free pages i s h =
     let d : Entry = record { prefix = []; slot = 0 } in
     record {
       once = λ t.
-          let same : ◌≡◌ {A = ℕ} (cond ((get_or entries i d).slot == t) 1 0) (cond (slot_at entries i == t) 1 0) = ap (λ k. ones (k == t)) (slot_of_entry entries i d h) in
-          omega (arith, s.once t, sum_by-remove (λ (e : Entry). cond (e.slot == t) 1 0) entries i d h, sum_by_push (λ k. cond (k == t) 1 0) free (slot_at entries i), same);
+          let same : ◌≡◌ {A = ℕ} (cond ((get_or entries i d).slot == t) 1 0) (cond (slot_at entries i == t) 1 0) =
+          ap (λ k. ones (k == t)) (slot_of_entry entries i d h) in
+          omega (
+            arith,
+            s.once t,
+            sum_by-remove (λ (e : Entry). cond (e.slot == t) 1 0) entries i d h,
+            sum_by_push (λ k. cond (k == t) 1 0) free (slot_at entries i),
+            same,
+          );
       all = omega (arith, s.all, length-remove entries i h, length-append free (slot_at entries i ∷ []));
     }
 
@@ -63,14 +71,16 @@ forgotten : (regions : List Region) (i parent : ℕ) (items : List Item) → par
     → remove (with_items (with_items regions i []) parent items) i ≡ remove (with_items regions parent items) i
 forgotten regions i parent items n =
     let r : Region = record { prefix = (region_at regions parent).prefix; items = items } in
-    let same : (region_at (with_items regions i []) parent).prefix ≡ (region_at regions parent).prefix = ap (λ (q : Region). q.prefix) (region_at_other regions i parent [] n) in
+    let same : (region_at (with_items regions i []) parent).prefix ≡ (region_at regions parent).prefix =
+    ap (λ (q : Region). q.prefix) (region_at_other regions i parent [] n) in
     ap (λ p. remove (set (with_items regions i []) parent (record { prefix = p; items = items })) i) same
     ∙ ap (λ qs. remove qs i) (set_other regions i parent (record { prefix = (region_at regions i).prefix; items = [] }) r (λ e. n (sym e)))
     ∙ remove_set (set regions parent r) i (record { prefix = (region_at regions i).prefix; items = [] })
 
 -- ---- the merge
 
-module _ (entries : List Entry) (pages : List (List Item)) (free : List ℕ) (reserved i to : ℕ) (stored : IsStored entries pages free reserved) (h : i < length entries)
+module _ (entries : List Entry) (pages : List (List Item)) (free : List ℕ) (reserved i to : ℕ) (stored : IsStored entries pages free reserved)
+    (h : i < length entries)
     (sp : IsSlotOfParent entries (prefix_at entries i) to) where
   pub parent_is : IsParent (region_prefixes (regions_of entries pages)) (region_at (regions_of entries pages) i).prefix sp.place
   parent_is =
@@ -101,7 +111,8 @@ module _ (entries : List Entry) (pages : List (List Item)) (free : List ℕ) (re
       one_owner (region_prefixes rs) key sp.place i stored.placed.rising (stored.placed.owned sp.place key p_in its') (stored.placed.owned i key i_in own') in
       omega (arith, parent_in_front, same)
 
-  pub merge_end : (new : List (List Item)) → length (page_at pages to) + length (page_at pages (slot_at entries i)) ≤ 31 → IsPoured pages (slot_at entries i) to new
+  pub merge_end : (new : List (List Item)) → length (page_at pages to) + length (page_at pages (slot_at entries i)) ≤ 31 →
+      IsPoured pages (slot_at entries i) to new
       → IsStored (remove entries i) new (free ++ slot_at entries i ∷ []) reserved × IsMerged (regions_of entries pages) i (regions_of (remove entries i) new)
   merge_end new few poured =
       let rs : List Region = regions_of entries pages in
@@ -120,17 +131,24 @@ module _ (entries : List Entry) (pages : List (List Item)) (free : List ℕ) (re
       let whole : regions_of (remove entries i) new ≡ remove (with_items rs sp.place items) i =
       map_remove (region_of new) entries i ∙ ap (λ qs. remove qs i) second ∙ forgotten rs i sp.place items apart in
       let all : IsPermutation (items_at rs sp.place ++ items_at rs i) items =
-      subst (λ xs. IsPermutation (xs ++ items_at rs i) items) (sym parent_items) (subst (λ xs. IsPermutation (page_at pages to ++ xs) items) (sym own_items) poured.all) in
+      subst (λ xs. IsPermutation (xs ++ items_at rs i) items) (sym parent_items)
+      (subst (λ xs. IsPermutation (page_at pages to ++ xs) items) (sym own_items) poured.all) in
       let old : (key : List Bool) → Contains (keys_of items) key → Contains (keys_at rs sp.place) key ⊎ Contains (keys_at rs i) key = λ key c.
       Contains-append_cases (keys_at rs sp.place) (keys_at rs i) key
       (subst (λ ks. Contains ks key) (map-append (λ (x : Item). x.key.bits) (items_at rs sp.place) (items_at rs i))
       (Contains-permutation (keys_of items) (keys_of (items_at rs sp.place ++ items_at rs i)) key
-      (IsPermutation-sym (keys_of (items_at rs sp.place ++ items_at rs i)) (keys_of items) (IsPermutation-map (λ (x : Item). x.key.bits) (items_at rs sp.place ++ items_at rs i) items all)) c)) in
+      (IsPermutation-sym (keys_of (items_at rs sp.place ++ items_at rs i)) (keys_of items)
+      (IsPermutation-map (λ (x : Item). x.key.bits) (items_at rs sp.place ++ items_at rs i) items all)) c)) in
       let may : IsMerging rs i sp.place items = record {
         within = i_in;
         is_parent = parent_is;
         ordered = poured.rising;
-        few = omega (arith, few, length_permutation (page_at pages to ++ page_at pages from) items poured.all, length-append (page_at pages to) (page_at pages from));
+        few = omega (
+          arith,
+          few,
+          length_permutation (page_at pages to ++ page_at pages from) items poured.all,
+          length-append (page_at pages to) (page_at pages from),
+        );
         old = old;
       } in (
         record {

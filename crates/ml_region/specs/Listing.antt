@@ -1,4 +1,5 @@
--- What contracts see of a directory: prefixes in order, each with the slot of its page. The code may keep them in a list or in a tree.
+-- What contracts see of a directory: prefixes in order, each with the slot of its page. The code
+-- may keep them in a list or in a tree.
 use Rattle.std.specs.Prelude.{ℕ, ◌<◌, ◌≡◌, ◌≢◌, Bool, List, [], ◌∷◌, length, map, slice_index_or}
 use Rattle.std.specs.List.{insert}
 use Rattle.ml_region.specs.Prefixes.{bits_at, IsRising, IsPlaceFor, IsOwner, IsParent}
@@ -53,7 +54,8 @@ pub record HasSlot (entries : List Entry) (slot : ℕ) : Type 0 where
 
 -- the prefix that has the slot
 abbrev pub IsPrefixOfSlot : List Entry → ℕ → List Bool → Type 0
-IsPrefixOfSlot entries slot prefix = (i : ℕ) → i < length entries → slot_at entries i ≡ slot → prefix ≡ prefix_at entries i
+IsPrefixOfSlot entries slot prefix = (i : ℕ) → i < length entries → slot_at entries i ≡ slot →
+    prefix ≡ prefix_at entries i
 
 -- no prefix is this one
 abbrev pub IsNewPrefix : List Entry → List Bool → Type 0
@@ -69,9 +71,11 @@ pub record IsWithEntry (old : List Entry) (entry : Entry) (new : List Entry) : T
   pub fits : IsPlaceFor (prefixes_of old) entry.prefix place
   pub same : new ≡ insert old place entry
 
--- what every directory keeps: the empty prefix is there, which comes first; the prefixes rise; no two of them have one slot
+-- what every directory keeps: the empty prefix is there, which comes first; the prefixes rise; no
+-- two of them have one slot
 pub record IsListing (entries : List Entry) : Type 0 where
   pub some : 0 < length entries
   pub root : prefix_at entries 0 ≡ []
   pub rising : IsRising (prefixes_of entries)
-  pub apart : (i j : ℕ) → i < length entries → j < length entries → slot_at entries i ≡ slot_at entries j → i ≡ j
+  pub apart : (i j : ℕ) → i < length entries → j < length entries →
+      slot_at entries i ≡ slot_at entries j → i ≡ j

@@ -1,7 +1,10 @@
--- The meaning of a file's regions: a finite map from prefixes to lists of items, as a list in the order of the prefixes. The code has pages and a directory.
-use Rattle.std.specs.Prelude.{ℕ, ◌<◌, ◌≤◌, ◌≡◌, Bool, List, [], length, map, slice_index_or, slice_set, Contains}
+-- The meaning of a file's regions: a finite map from prefixes to lists of items, as a list in the
+-- order of the prefixes. The code has pages and a directory.
+use Rattle.std.specs.Prelude.{ℕ, ◌<◌, ◌≤◌, ◌≡◌, Bool, List, [], length, map, slice_index_or}
+use Rattle.std.specs.Prelude.{slice_set, take, Contains}
 use Rattle.ml_bits.specs.BitList.{Begins}
-use Rattle.ml_region.specs.Prefixes.{IsRising, IsOwner}
+use Rattle.ml_region.specs.Limits.{page_items}
+use Rattle.ml_region.specs.Prefixes.{bits_at, IsRising, IsOwner}
 use Rattle.ml_region.specs.declared.item.Item.{Item}
 
 -- the keys of some items
@@ -38,25 +41,38 @@ items_at regions i = (region_at regions i).items
 abbrev pub keys_at : List Region → ℕ → List (List Bool)
 keys_at regions i = keys_of (items_at regions i)
 
+-- the first n bits of the key of an item, by the places of its region and of the item there
+abbrev pub key_front : List Region → ℕ → ℕ → ℕ → List Bool
+key_front regions i j n = take n (bits_at (keys_at regions i) j)
+
+-- no region has more than n items
+abbrev pub AreWithin : ℕ → List Region → Type 0
+AreWithin n regions = (i : ℕ) → i < length regions → length (items_at regions i) ≤ n
+
 -- the regions where those at a place have these items, and all else stays
 abbrev pub with_items : List Region → ℕ → List Item → List Region
-with_items regions i items = slice_set regions i (record { prefix = (region_at regions i).prefix; items = items })
+with_items regions i items = slice_set regions i
+    (record { prefix = (region_at regions i).prefix; items = items })
 
--- the regions are well placed: the empty prefix is there and comes first; the prefixes rise; the items of a region are in key order, few, and owned by
--- it; and no item's key begins another item's key
+-- the regions are well placed: the empty prefix is there and comes first; the prefixes rise; the
+-- items of a region are in key order, few, and owned by it; and no item's key begins another item's
+-- key
 pub record IsWellPlaced (regions : List Region) : Type 0 where
   pub some : 0 < length regions
   pub root : (region_at regions 0).prefix ≡ []
   pub rising : IsRising (region_prefixes regions)
   pub ordered : (i : ℕ) → i < length regions → IsRising (keys_at regions i)
-  pub few : (i : ℕ) → i < length regions → length (items_at regions i) ≤ 31
-  pub owned : (i : ℕ) (key : List Bool) → i < length regions → Contains (keys_at regions i) key → IsOwner (region_prefixes regions) key i
-  pub apart : (i j : ℕ) (key other : List Bool) → i < length regions → j < length regions → Contains (keys_at regions i) key → Contains (keys_at regions j) other
+  pub few : (i : ℕ) → i < length regions → length (items_at regions i) ≤ page_items
+  pub owned : (i : ℕ) (key : List Bool) → i < length regions → Contains (keys_at regions i) key →
+      IsOwner (region_prefixes regions) key i
+  pub apart : (i j : ℕ) (key other : List Bool) → i < length regions → j < length regions →
+      Contains (keys_at regions i) key → Contains (keys_at regions j) other
       → Begins key other → key ≡ other
 
 -- no item's key begins a key or begins with it
 abbrev pub IsApart : List Region → List Bool → Type 0
-IsApart regions key = (i : ℕ) (other : List Bool) → i < length regions → Contains (keys_at regions i) other → (Begins other key → ⊥) × (Begins key other → ⊥)
+IsApart regions key = (i : ℕ) (other : List Bool) → i < length regions →
+    Contains (keys_at regions i) other → (Begins other key → ⊥) × (Begins key other → ⊥)
 
 -- some item has the key
 pub record HasKey (regions : List Region) (key : List Bool) : Type 0 where

@@ -1,15 +1,19 @@
 //! A directory of prefixes, by what it holds.
-ghost use Rattle.std.specs.Prelude.{◌≡◌, ◌≢◌, ◌<◌, ◌≤◌, [], length, max, take, IfSome, MatchOption, OnErr, OnOk};
+ghost use Rattle.std.specs.Prelude.{◌≡◌, ◌≢◌, ◌<◌, ◌≤◌, [], length, max, take, IfSome, MatchOption};
+ghost use Rattle.std.specs.Prelude.{OnErr, OnOk};
 ghost use Rattle.std.specs.List.{remove};
-ghost use Rattle.ml_region.specs.Listing.{Listing, HasSlot, IsListing, IsNewPrefix, IsNewSlot, IsPrefixOfSlot, IsSlotOfOwner, IsSlotOfParent, IsWithEntry, prefix_at, slot_at};
+ghost use Rattle.ml_region.specs.Listing.{Listing, HasSlot, IsListing, IsNewPrefix, IsNewSlot};
+ghost use Rattle.ml_region.specs.Listing.{IsPrefixOfSlot, IsSlotOfOwner, IsSlotOfParent};
+ghost use Rattle.ml_region.specs.Listing.{IsWithEntry, prefix_at, slot_at};
 
 use ml_bits::{Bits, OutOfMemory};
 
 /// The number of a page.
 pub type Slot = usize;
 
-/// Prefixes in order, each with the slot of its page; no two have one slot, and the empty prefix is always there. A place counts from 0 in the
-/// order of the prefixes. Every prefix has room for as many bits as `room` says, and no call lessens it. Only `add` and `make_room` take memory.
+/// Prefixes in order, each with the slot of its page; no two have one slot, and the empty prefix is
+/// always there. A place counts from 0 in the order of the prefixes. Every prefix has room for as
+/// many bits as `room` says, and no call lessens it. Only `add` and `make_room` take memory.
 pub trait Directory: Drop {
     /// The entries in order, and the room that every prefix has.
     ghost listing: { Self → Listing };
@@ -18,7 +22,8 @@ pub trait Directory: Drop {
     fn owner(&self, key: &Bits) -> Slot
         ensures { IsSlotOfOwner (listing self.now).entries key.now.bits result };
 
-    /// The slot of the longest prefix that begins this one and is shorter; none for the empty prefix alone.
+    /// The slot of the longest prefix that begins this one and is shorter; none for the empty
+    /// prefix alone.
     fn parent(&self, prefix: &Bits) -> Option<Slot>
         ensures { MatchOption result (prefix.now.bits ≡ [])
             (λ slot. IsSlotOfParent (listing self.now).entries prefix.now.bits slot) };
@@ -31,7 +36,8 @@ pub trait Directory: Drop {
         ensures room { IfSome result (λ prefix. (listing self.now).room ≤ prefix.now.room) }
         ensures listing { IsListing (listing self.now).entries };
 
-    /// Takes in a prefix with a slot; it gets the room that all prefixes have. After an error nothing has changed.
+    /// Takes in a prefix with a slot; it gets the room that all prefixes have. After an error
+    /// nothing has changed.
     fn add(&mut self, prefix: Bits, slot: Slot) -> Result<(), OutOfMemory>
         requires prefix { IsNewPrefix (listing self.old).entries prefix.bits }
         requires slot { IsNewSlot (listing self.old).entries slot }
@@ -58,7 +64,8 @@ pub trait Directory: Drop {
         ensures ok { OnOk result ((listing self.new).room ≡ max (listing self.old).room bits) }
         ensures err { OnErr result ((listing self.new).room ≡ (listing self.old).room) };
 
-    /// Puts the first `n` bits of a list, which are no prefix yet, in the place of a prefix that is not the empty one. Its slot stays.
+    /// Puts the first `n` bits of a list, which are no prefix yet, in the place of a prefix that is
+    /// not the empty one. Its slot stays.
     fn rename(&mut self, i: usize, from: &Bits, n: usize)
         requires nested { 0 < i }
         requires within { i < length (listing self.old).entries }

@@ -6,8 +6,8 @@ ghost use Rattle.ml_term.specs.Valid.{is_valid};
 use ml_bits::Bits;
 use ml_term::Term;
 
-/// Where an item came from: the place in the history of the entry that committed it, from 1, and the number of the change in the log of that
-/// entry. A loaded item has the place 0.
+/// Where an item came from: the place in the history of the entry that committed it, from 1, and
+/// the number of the change in the log of that entry. A loaded item has the place 0.
 #[derive(Clone, Copy, Debug, PartialEq, Eq)]
 pub struct Id {
     pub place: u32,

@@ -1,17 +1,18 @@
 //! Items that move from one page to another.
-ghost use Rattle.std.specs.Prelude.{◌≡◌, ◌≢◌, ◌+◌, ◌<◌, ◌≤◌, Bool, List, [], ◌++◌, length, slice_set, Contains};
+ghost use Rattle.std.specs.Prelude.{◌≡◌, ◌≢◌, ◌+◌, ◌<◌, ◌≤◌, Bool, List, [], ◌++◌, length};
+ghost use Rattle.std.specs.Prelude.{slice_set, Contains};
 ghost use Rattle.std.specs.List.{remove};
 ghost use Rattle.ml_region.specs.Changes.{items_below, items_beside};
-ghost use Rattle.ml_region.specs.Moves.{IsMoved, IsParted, IsPoured};
+ghost use Rattle.ml_region.specs.inside.Moves.{IsMoved, IsParted, IsPoured};
 ghost use Rattle.ml_region.specs.Prefixes.{IsRising};
 ghost use Rattle.ml_region.specs.Regions.{keys_of};
-ghost use Rattle.ml_region.specs.Stored.{page_at};
+ghost use Rattle.ml_region.specs.inside.Stored.{page_at};
 
 use crate::limits::PAGE_ITEMS;
 use crate::page::Page;
 use ml_bits::Bits;
 
-/// Moves an item to the end of another page.
+// Moves an item to the end of another page.
 fn move_to_end(pages: &mut [Page], from: usize, j: usize, to: usize)
     requires from { from < length pages.old }
     requires to { to < length pages.old }
@@ -25,7 +26,7 @@ fn move_to_end(pages: &mut [Page], from: usize, j: usize, to: usize)
     pages[to].put(end, item);
 }
 
-/// Moves the items whose keys begin with a prefix to another page, which has none.
+// Moves the items whose keys begin with a prefix to another page, which has none.
 pub(crate) fn move_below(pages: &mut [Page], from: usize, to: usize, prefix: &Bits)
     requires from { from < length pages.old }
     requires to { to < length pages.old }
@@ -33,7 +34,8 @@ pub(crate) fn move_below(pages: &mut [Page], from: usize, to: usize, prefix: &Bi
     requires few { length (page_at pages.old from) ≤ PAGE_ITEMS }
     requires empty { page_at pages.old to ≡ [] }
     ensures { pages.new ≡ slice_set (slice_set pages.old from
-        (items_beside prefix.now.bits (page_at pages.old from))) to (items_below prefix.now.bits (page_at pages.old from)) }
+        (items_beside prefix.now.bits (page_at pages.old from))) to
+        (items_below prefix.now.bits (page_at pages.old from)) }
 {
     let mut left = pages[from].len();
     let mut j = 0;
@@ -47,7 +49,7 @@ pub(crate) fn move_below(pages: &mut [Page], from: usize, to: usize, prefix: &Bi
     }
 }
 
-/// Moves all items of a page to another, each to its place in key order.
+// Moves all items of a page to another, each to its place in key order.
 pub(crate) fn pour(pages: &mut [Page], from: usize, to: usize)
     requires from { from < length pages.old }
     requires to { to < length pages.old }
@@ -70,7 +72,8 @@ pub(crate) fn pour(pages: &mut [Page], from: usize, to: usize)
     }
 }
 
-/// Moves all items of a page to another, each to its place in key order, and those whose keys begin with a prefix back.
+// Moves all items of a page to another, each to its place in key order, and those whose keys begin
+// with a prefix back.
 pub(crate) fn pour_and_part(pages: &mut [Page], from: usize, to: usize, prefix: &Bits)
     requires from { from < length pages.old }
     requires to { to < length pages.old }

@@ -1,13 +1,14 @@
 //! Places and slots in a directory.
 ghost use Rattle.std.specs.Prelude.{◌≡◌, ◌<◌, ◌≤◌, length, take, Contains};
-ghost use Rattle.ml_region.specs.Listing.{IsListing, IsSlotOfParent, prefix_at, prefixes_of, slot_at};
+ghost use Rattle.ml_region.specs.Listing.{IsListing, IsSlotOfParent, prefix_at, prefixes_of};
+ghost use Rattle.ml_region.specs.Listing.{slot_at};
 
 use crate::directory::{Directory, Slot};
 use crate::prefixes::DirectoryPrefixes;
 use crate::searches::last_up_to;
 use ml_bits::Bits;
 
-/// The slot of the prefix at a place: a prefix is its own owner.
+// The slot of the prefix at a place: a prefix is its own owner.
 pub(crate) fn slot_of<D: Directory>(dir: &D, i: usize) -> Slot
     requires listing { IsListing (D.listing dir.now).entries }
     requires within { i < length (D.listing dir.now).entries }
@@ -19,7 +20,7 @@ pub(crate) fn slot_of<D: Directory>(dir: &D, i: usize) -> Slot
     }
 }
 
-/// The prefix that is the first `n` bits of a key, among `len` prefixes.
+// The prefix that is the first `n` bits of a key, among `len` prefixes.
 pub(crate) fn prefix_among<'a, D: Directory>(
     dir: &'a D,
     len: usize,
@@ -39,12 +40,13 @@ pub(crate) fn prefix_among<'a, D: Directory>(
     }
 }
 
-/// The slot of the parent of the prefix at a place that is not the first.
+// The slot of the parent of the prefix at a place that is not the first.
 pub(crate) fn parent_slot<D: Directory>(dir: &D, i: usize) -> Slot
     requires listing { IsListing (D.listing dir.now).entries }
     requires nested { 0 < i }
     requires within { i < length (D.listing dir.now).entries }
-    ensures { IsSlotOfParent (D.listing dir.now).entries (prefix_at (D.listing dir.now).entries i) result }
+    ensures { IsSlotOfParent (D.listing dir.now).entries
+        (prefix_at (D.listing dir.now).entries i) result }
 {
     let Some(prefix) = dir.prefix_at(i) else {
         unreachable!()

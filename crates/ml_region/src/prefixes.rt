@@ -7,22 +7,22 @@ use crate::directory::Directory;
 use crate::kept::Kept;
 use ml_bits::Bits;
 
-/// A list of prefixes that can be read at each place.
+// A list of prefixes that can be read at each place.
 pub(crate) trait Prefixes {
-    /// The prefixes in their order.
+    // The prefixes in their order.
     ghost prefixes: { Self → List (List Bool) };
 
-    /// How many prefixes there are.
+    // How many prefixes there are.
     fn len(&self) -> usize
         ensures { result ≡ length (prefixes self.now) };
 
-    /// The prefix at place `i`, from 0.
+    // The prefix at place `i`, from 0.
     fn prefix(&self, i: usize) -> &Bits
         requires { i < length (prefixes self.now) }
         ensures { result.now.bits ≡ bits_at (prefixes self.now) i };
 }
 
-/// The prefixes of a directory, with their number.
+// The prefixes of a directory, with their number.
 #[derive(Drop)]
 pub(crate) struct DirectoryPrefixes<'a, D: Directory> {
     pub(crate) dir: &'a D,
@@ -46,7 +46,7 @@ impl<D: Directory> Prefixes for DirectoryPrefixes<'_, D> {
 }
 
 impl Prefixes for Vec<Kept> {
-    ghost use Rattle.ml_region.specs.Kept.{kept_entries};
+    ghost use Rattle.ml_region.specs.inside.Kept.{kept_entries};
 
     ghost prefixes = { λ kept. prefixes_of (kept_entries kept.items) };
 

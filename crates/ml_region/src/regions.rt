@@ -1,8 +1,16 @@
 //! The regions of a file, and what can be read of them.
-ghost use Rattle.std.specs.Prelude.{◌≡◌, ◌<◌, ◌≤◌, [], ◌∷◌, length, max, slice_index_or, IfOk, MatchOption, OnErr, OnOk};
+ghost use Rattle.std.specs.Prelude.{◌≡◌, ◌<◌, ◌≤◌, [], ◌∷◌, length, max, slice_index_or, IfOk};
+ghost use Rattle.std.specs.Prelude.{MatchOption, OnErr, OnOk};
 ghost use Rattle.ml_region.specs.Listing.{only_root, prefixes_of};
 ghost use Rattle.ml_region.specs.Prefixes.{AreRooted, IsOwner, IsParent};
-ghost use Rattle.ml_region.specs.Regions.{HasNoKey, IsFound, IsWellPlaced, empty_region, items_at, region_at, region_prefixes};
+ghost use Rattle.ml_region.specs.Regions.{HasNoKey, IsFound, IsWellPlaced, empty_region, items_at};
+ghost use Rattle.ml_region.specs.Regions.{region_at, region_prefixes};
+
+mod change;
+mod compatible;
+mod cut;
+mod merge;
+mod recut;
 
 use crate::directory::{Directory, Slot};
 use crate::item::Item;
@@ -14,8 +22,9 @@ use ml_bits::{Bits, OutOfMemory};
 use std::alloc::Global;
 use std::marker::Model;
 
-/// The regions of one file: a directory of their prefixes and their pages, a page at its slot. Contracts see the regions in the order of their
-/// prefixes, each with its items, and the room that every prefix has. A region is named by its place in that order, from 0; the empty prefix has the
+/// The regions of one file: a directory of their prefixes and their pages, a page at its slot.
+/// Contracts see the regions in the order of their prefixes, each with its items, and the room that
+/// every prefix has. A region is named by its place in that order, from 0; the empty prefix has the
 /// place 0. They are well placed at all times.
 #[derive(Drop)]
 pub struct Regions<D: Directory> {
@@ -34,18 +43,23 @@ impl<D: Directory> Model for Regions<D> {
 
     ghost coded = { Prim.hlevel (codes, item.the_row.coded) };
 
-    ghost use Rattle.ml_region.specs.Stored.{IsStored, regions_of};
+    ghost use Rattle.ml_region.specs.inside.Stored.{IsStored, regions_of};
 
-    ghost view = { λ r. record { regions = regions_of (D.listing r.dir).entries r.pages.items; room = (D.listing r.dir).room } };
+    ghost view = { λ r. record {
+      regions = regions_of (D.listing r.dir).entries r.pages.items;
+      room = (D.listing r.dir).room;
+    } };
 
-    ghost invariant = { λ r. IsStored (D.listing r.dir).entries r.pages.items r.free.items (vec_capacity r.free) };
+    ghost invariant = { λ r. IsStored (D.listing r.dir).entries r.pages.items r.free.items
+        (vec_capacity r.free) };
 }
 
 impl<D: Directory> Regions<D> {
     /// One region without items.
     pub fn new(alloc: Global, dir: D) -> Result<Regions<D>, OutOfMemory>
         requires { (D.listing dir).entries ≡ only_root }
-        ensures { IfOk result (λ made. made ≡ record { regions = empty_region ∷ []; room = (D.listing dir).room }) }
+        ensures { IfOk result (λ made. made
+            ≡ record { regions = empty_region ∷ []; room = (D.listing dir).room }) }
     {
         let mut pages = Vec::new(alloc);
         pages.push(Page::new(alloc)?)?;
@@ -73,9 +87,10 @@ impl<D: Directory> Regions<D> {
         }
     }
 
-    /// The prefixes of the regions, for a search.
+    // The prefixes of the regions, for a search.
     fn prefixes(&self) -> DirectoryPrefixes<'_, D>
-        ensures same { prefixes_of (D.listing result.dir.now).entries ≡ region_prefixes self.now.regions }
+        ensures same { prefixes_of (D.listing result.dir.now).entries
+            ≡ region_prefixes self.now.regions }
         ensures rooted { AreRooted (region_prefixes self.now.regions) }
     {
         DirectoryPrefixes {
@@ -84,7 +99,7 @@ impl<D: Directory> Regions<D> {
         }
     }
 
-    /// The page of a region.
+    // The page of a region.
     fn page(&self, i: usize) -> &Page
         requires { i < length self.now.regions }
         ensures { result.now ≡ items_at self.now.regions i }
@@ -124,11 +139,13 @@ impl<D: Directory> Regions<D> {
         owner_within(&self.prefixes(), key, key.len())
     }
 
-    /// The parent of a region: the one with the longest shorter prefix that begins its own. The empty prefix alone has none.
+    /// The parent of a region: the one with the longest shorter prefix that begins its own. The
+    /// empty prefix alone has none.
     pub fn parent_of(&self, i: usize) -> Option<usize>
         requires { i < length self.now.regions }
         ensures { MatchOption result (i ≡ 0)
-            (λ parent. IsParent (region_prefixes self.now.regions) (region_at self.now.regions i).prefix parent) }
+            (λ parent. IsParent (region_prefixes self.now.regions)
+            (region_at self.now.regions i).prefix parent) }
     {
         let prefixes = self.prefixes();
         let prefix = self.prefix(i);

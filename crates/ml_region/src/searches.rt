@@ -6,7 +6,7 @@ use crate::order::cmp_front;
 use crate::prefixes::Prefixes;
 use ml_bits::Bits;
 
-/// The place of the last prefix that does not come after the first `n` bits of a key.
+// The place of the last prefix that does not come after the first `n` bits of a key.
 pub(crate) fn last_up_to<P: Prefixes>(prefixes: &P, key: &Bits, n: usize) -> usize
     requires rooted { AreRooted (P.prefixes prefixes.now) }
     requires within { n ≤ length key.now.bits }
@@ -25,8 +25,8 @@ pub(crate) fn last_up_to<P: Prefixes>(prefixes: &P, key: &Bits, n: usize) -> usi
     low
 }
 
-/// The place of the longest prefix that begins the first `n` bits of a key. Where the last prefix up to these bits doesn't begin them, no prefix
-/// that does is longer than what the two have in common.
+// The place of the longest prefix that begins the first `n` bits of a key. Where the last prefix up
+// to these bits doesn't begin them, no prefix that does is longer than what the two have in common.
 pub(crate) fn owner_within<P: Prefixes>(prefixes: &P, key: &Bits, n: usize) -> usize
     requires rooted { AreRooted (P.prefixes prefixes.now) }
     requires within { n ≤ length key.now.bits }

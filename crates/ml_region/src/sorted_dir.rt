@@ -9,7 +9,8 @@ use ml_bits::{Bits, OutOfMemory};
 use std::alloc::Global;
 use std::marker::Model;
 
-/// The prefixes of a directory as one vector in order. All searches go by halves but that of `prefix_of`, which looks through all prefixes.
+/// The prefixes of a directory as one vector in order. All searches go by halves but that of
+/// `prefix_of`, which looks through all prefixes.
 #[derive(Drop)]
 pub struct SortedDir {
     kept: Vec<Kept>,
@@ -17,7 +18,7 @@ pub struct SortedDir {
 }
 
 impl Model for SortedDir {
-    ghost use Rattle.ml_region.specs.Kept.{kept_entries, IsKept};
+    ghost use Rattle.ml_region.specs.inside.Kept.{kept_entries, IsKept};
     ghost use Rattle.ml_region.specs.Listing.{Listing};
 
     ghost Value = { Listing };

@@ -17,7 +17,7 @@ fn named(rt: &impl Abort, alloc: Global, bytes: &[u8]) -> Result<Name, AllocErro
     Name::new(alloc, bytes)
 }
 
-/// The declaration of the relation p/1.
+// The declaration of the relation p/1.
 fn declared(rt: &impl Abort, alloc: Global) -> Result<Decl, AllocError>
     ensures { IfOk result (λ decl. (decl.kind ≡ Kind.Relation) × (decl.pred.arity ≡ 1)) }
 {
@@ -33,7 +33,7 @@ fn tuple(rt: &impl Abort, alloc: Global, argument: Term) -> Result<Term, AllocEr
     Ok(Term::Cmp(named(rt, alloc, b"p")?, Args::new(arguments)))
 }
 
-/// The committed item p(n).
+// The committed item p(n).
 fn item(rt: &impl Abort, alloc: Global, n: i64) -> Result<Item, AllocError> {
     let decl = declared(rt, alloc)?;
     let term = tuple(rt, alloc, Term::Int(n))?;
@@ -51,7 +51,7 @@ fn item(rt: &impl Abort, alloc: Global, n: i64) -> Result<Item, AllocError> {
     })
 }
 
-/// The pattern of p(t).
+// The pattern of p(t).
 fn pattern(rt: &impl Abort, alloc: Global, t: Term) -> Result<Pattern, AllocError> {
     let decl = declared(rt, alloc)?;
     let head = tuple(rt, alloc, t)?;
@@ -59,7 +59,7 @@ fn pattern(rt: &impl Abort, alloc: Global, t: Term) -> Result<Pattern, AllocErro
     Ok(pattern_of(&decl, &head))
 }
 
-/// Marks the item that has a key, if there is one.
+// Marks the item that has a key, if there is one.
 fn marked(regions: &mut Regions<SortedDir>, key: &Bits) {
     if let Some(_) = regions.find(key) {
         let id = Id {
@@ -70,7 +70,7 @@ fn marked(regions: &mut Regions<SortedDir>, key: &Bits) {
     }
 }
 
-/// Merges a region, where the two have few items.
+// Merges a region, where the two have few items.
 fn merged(regions: &mut Regions<SortedDir>, i: usize) -> bool {
     if i == 0 {
         return false;
@@ -90,7 +90,7 @@ fn merged(regions: &mut Regions<SortedDir>, i: usize) -> bool {
     true
 }
 
-/// A prefix is taken in, and owns the keys that begin with it.
+// A prefix is taken in, and owns the keys that begin with it.
 #[test]
 fn a_prefix_owns_what_it_begins(rt: HostRuntime) -> Result<(), Fail> {
     let alloc = rt.alloc();
@@ -109,7 +109,7 @@ fn a_prefix_owns_what_it_begins(rt: HostRuntime) -> Result<(), Fail> {
     Ok(())
 }
 
-/// An item comes, is found and marked, lies in a region that is cut for it, and goes.
+// An item comes, is found and marked, lies in a region that is cut for it, and goes.
 #[test]
 fn an_item_comes_and_goes(rt: HostRuntime) -> Result<(), Fail> {
     let alloc = rt.alloc();
@@ -148,12 +148,12 @@ fn an_item_comes_and_goes(rt: HostRuntime) -> Result<(), Fail> {
     Ok(())
 }
 
-/// The 8 bits of a number.
+// The 8 bits of a number.
 fn bits_of(alloc: Global, number: u8) -> Result<Bits, OutOfMemory> {
     Bits::from_bytes(alloc, &[number], 8)
 }
 
-/// Whether no item's key begins a key or begins with it.
+// Whether no item's key begins a key or begins with it.
 fn is_apart(regions: &Regions<SortedDir>, key: &Bits) -> bool
     ensures { IsTrue result → IsApart regions.now.regions key.now.bits }
 {
@@ -168,7 +168,7 @@ fn is_apart(regions: &Regions<SortedDir>, key: &Bits) -> bool
     true
 }
 
-/// Whether the region that owns a key has place for one more item.
+// Whether the region that owns a key has place for one more item.
 fn has_place(regions: &Regions<SortedDir>, key: &Bits) -> bool
     ensures { IsTrue result → (i : ℕ) → IsOwner (region_prefixes regions.now.regions) key.now.bits i
         → length (items_at regions.now.regions i) < PAGE_ITEMS }
@@ -180,9 +180,10 @@ fn has_place(regions: &Regions<SortedDir>, key: &Bits) -> bool
     regions.count(owner) < PAGE_ITEMS
 }
 
-/// Whether no region has a prefix.
+// Whether no region has a prefix.
 fn is_new(regions: &Regions<SortedDir>, prefix: &Bits) -> bool
-    ensures { IsTrue result → (m : ℕ) → m < length regions.now.regions → (region_at regions.now.regions m).prefix ≢ prefix.now.bits }
+    ensures { IsTrue result → (m : ℕ) → m < length regions.now.regions →
+        (region_at regions.now.regions m).prefix ≢ prefix.now.bits }
 {
     for m in 0..regions.len() {
         if regions.prefix(m).cmp(prefix).is_eq() {
@@ -192,7 +193,7 @@ fn is_new(regions: &Regions<SortedDir>, prefix: &Bits) -> bool
     true
 }
 
-/// Puts an item with the 8 bits of a number as its key into its region.
+// Puts an item with the 8 bits of a number as its key into its region.
 fn place_number(
     rt: &impl Abort,
     alloc: Global,
@@ -216,7 +217,7 @@ fn place_number(
     Ok(())
 }
 
-/// Cuts a region at the first `n` bits of the key of its first item.
+// Cuts a region at the first `n` bits of the key of its first item.
 fn cut_first(
     rt: &impl Abort,
     regions: &mut Regions<SortedDir>,
@@ -230,7 +231,8 @@ fn cut_first(
     regions.cut(i, 0, n)
 }
 
-/// Recuts a region at the first `n` bits of the key of item `j` of region `r`, which is the region itself or its parent.
+// Recuts a region at the first `n` bits of the key of item `j` of region `r`, which is the region
+// itself or its parent.
 fn recut_at(
     rt: &impl Abort,
     regions: &mut Regions<SortedDir>,
@@ -257,7 +259,8 @@ fn recut_at(
     Ok(())
 }
 
-/// Whether a region has the first bits of a number as its prefix, and the 8 bits of the numbers from one up to another as its keys, in their order.
+// Whether a region has the first bits of a number as its prefix, and the 8 bits of the numbers from
+// one up to another as its keys, in their order.
 fn has_numbers(
     alloc: Global,
     regions: &Regions<SortedDir>,
@@ -284,7 +287,8 @@ fn has_numbers(
     Ok(j == items.len())
 }
 
-/// A region of 7 numbers and its parent of 19 are cut anew, once at an item of the parent and once at one of the region: their prefixes and items.
+// A region of 7 numbers and its parent of 19 are cut anew, once at an item of the parent and once
+// at one of the region: their prefixes and items.
 #[test]
 fn a_thin_region_is_recut_with_its_parent(rt: HostRuntime) -> Result<(), Fail> {
     let alloc = rt.alloc();
@@ -308,7 +312,7 @@ fn a_thin_region_is_recut_with_its_parent(rt: HostRuntime) -> Result<(), Fail> {
     Ok(())
 }
 
-/// The prefixes none, 0, 01, 011 and 10 in their order: the owner of a key, and the parent of each.
+// The prefixes none, 0, 01, 011 and 10 in their order: the owner of a key, and the parent of each.
 #[test]
 fn the_longest_prefix_owns_a_key(rt: HostRuntime) -> Result<(), Fail> {
     let alloc = rt.alloc();
@@ -346,12 +350,12 @@ fn the_longest_prefix_owns_a_key(rt: HostRuntime) -> Result<(), Fail> {
     Ok(())
 }
 
-/// The longest prefix that begins a key, by its slot.
+// The longest prefix that begins a key, by its slot.
 fn prefix_of_owner<'a>(dir: &'a SortedDir, key: &Bits) -> &'a Bits {
     dir.prefix_of(dir.owner(key))
 }
 
-/// Whether a directory has fewer than 8 prefixes, and a list is none of them.
+// Whether a directory has fewer than 8 prefixes, and a list is none of them.
 fn is_new_prefix(dir: &SortedDir, list: &Bits) -> bool
     ensures { IsTrue result → IsNewPrefix dir.now.entries list.now.bits }
 {
@@ -366,7 +370,7 @@ fn is_new_prefix(dir: &SortedDir, list: &Bits) -> bool
     false
 }
 
-/// Puts the first `n` bits of a list in the place of a prefix, where that may be done.
+// Puts the first `n` bits of a list in the place of a prefix, where that may be done.
 fn renamed(dir: &mut SortedDir, i: usize, from: &Bits, n: usize) -> Result<bool, OutOfMemory> {
     dir.make_room(n)?;
     if i == 0 || n == 0 || n > from.len() {
@@ -383,7 +387,7 @@ fn renamed(dir: &mut SortedDir, i: usize, from: &Bits, n: usize) -> Result<bool,
     Ok(true)
 }
 
-/// Takes out a prefix that is not the empty one.
+// Takes out a prefix that is not the empty one.
 fn dropped(dir: &mut SortedDir, i: usize) -> bool {
     if i == 0 {
         return false;
@@ -395,7 +399,7 @@ fn dropped(dir: &mut SortedDir, i: usize) -> bool {
     true
 }
 
-/// A prefix gets other bits by its place, is found by its slot, and goes.
+// A prefix gets other bits by its place, is found by its slot, and goes.
 #[test]
 fn a_prefix_is_renamed_and_goes(rt: HostRuntime) -> Result<(), Fail> {
     let alloc = rt.alloc();
@@ -415,7 +419,7 @@ fn a_prefix_is_renamed_and_goes(rt: HostRuntime) -> Result<(), Fail> {
     Ok(())
 }
 
-/// Items and regions may be sent to threads and shared by them.
+// Items and regions may be sent to threads and shared by them.
 #[test]
 fn may_be_shared(rt: HostRuntime) -> Result<(), Fail> {
     let alloc = rt.alloc();

@@ -1,16 +1,17 @@
 -- The values that a tuple gave to a goal's variables are the terms of the answer, and their line is the answer's.
-use Rattle.std.proofs.Common.{◌≡◌, ℕ, ◌+◌, ◌<◌, ◌≤◌, Bool, true, false, ◌&&◌, ◌||◌, List, [], ◌∷◌, ◌++◌, length, map, codes, Option, Some, None, refl, sym, ap, ◌∙◌, cond, get_or, drop, append_assoc}
+use Rattle.std.proofs.Common.{◌≡◌, ℕ, ◌+◌, ◌<◌, ◌≤◌, Bool, true, false, ◌&&◌, ◌||◌, List, [], ◌∷◌, ◌++◌, length, map, codes, Option, Some, None, refl, sym, ap}
+use Rattle.std.proofs.Common.{◌∙◌, cond, get_or, drop, append_assoc}
 use Rattle.std.specs.Prelude.{unwrap_or}
 use Rattle.std.specs.List.{All, filter, list_all, list_any, filter_map, cons_option}
 use Rattle.std.proofs.lemmas.List.{drop_more, drop_all}
 use Rattle.std.proofs.lemmas.List.Elements.{All-nil, All-cons}
 use Rattle.ml_term.specs.Tree.{Tree, variable, variables, occurs}
-use Rattle.ml_term.specs.Unify.{Map, value_of, applied, unifier}
+use Rattle.ml_term.specs.Unify.{Map, value_of, apply, unifier}
 use Rattle.ml_term.specs.Text.{text_of}
-use Rattle.ml_term.proofs.Columns.{and_first, and_second}
+use Rattle.ml_term.proofs.KeyColumns.{and_first, and_second}
 use Rattle.ml_search.specs.Program.{Goal}
 use Rattle.ml_search.specs.Errors.{is_too_large}
-use Rattle.ml_search.specs.Session.{is_shown, shown, bindings_text, answer_line, line}
+use Rattle.ml_search.specs.Session.{is_shown, shown_names, bindings_text, answer_line, line}
 use Rattle.ml_writer.specs.AnswerText.{Bindings, line_of_answer, names_of, terms_of}
 use Rattle.ml_relation.specs.Matching.{Values, value_at, HasValue, Meets}
 use Rattle.ml_relation.specs.Answering.{answer, answers}
@@ -44,14 +45,14 @@ known_filter vs m (e ∷ es) k = by_test (known_filter vs m es k.1) (is_shown e)
     by_test h true = (k.0, h)
     by_test h false = h
 
-values_are : (vs : Values) (m : Map) (es : List (List ℕ × ℕ)) → Known vs m es → map (λ e. value_or vs e.1) es ≡ map (applied m) (map (λ e. variable e.1) es)
+values_are : (vs : Values) (m : Map) (es : List (List ℕ × ℕ)) → Known vs m es → map (λ e. value_or vs e.1) es ≡ map (apply m) (map (λ e. variable e.1) es)
 values_are vs m [] k = refl
 values_are vs m (e ∷ es) k =
     ap (λ o. unwrap_or o (variable e.1) ∷ map (λ e. value_or vs e.1) es) k.0 ∙ ap (λ ts. value_of m e.1 ∷ ts) (values_are vs m es k.1)
 
 -- the terms of the answer
 pub shown_are : (g : Goal) (vs : Values) (m : Map) → Known vs m g.names → shown_values vs g.names ≡ answer g m
-shown_are g vs m k = values_are vs m (shown g) (known_filter vs m g.names k)
+shown_are g vs m k = values_are vs m (shown_names g) (known_filter vs m g.names k)
 
 -- a line's text doesn't depend on the numbers that stand beside the names
 text_is : (f : List ℕ × ℕ → Tree) (es : List (List ℕ × ℕ)) (met : List ℕ)
@@ -62,7 +63,7 @@ text_is f (e ∷ d ∷ es) met = ap (λ t. e.0 ++ codes " = " ++ text_of (f e) m
 
 pub line_is : (g : Goal) (vs : Values) (m : Map) → Known vs m g.names → line_of_answer (shown_bindings vs g.names) ≡ answer_line g (answer g m)
 line_is g vs m k =
-    ap (λ t. line (codes "  " ++ t)) (text_is (λ e. value_or vs e.1) (shown g) [])
+    ap (λ t. line (codes "  " ++ t)) (text_is (λ e. value_or vs e.1) (shown_names g) [])
     ∙ ap (answer_line g) (shown_are g vs m k)
 
 -- the answers of one tuple, and of more
@@ -79,7 +80,8 @@ filter_map-append f [] ys = refl
 filter_map-append f (x ∷ xs) ys = ap (cons_option (f x)) (filter_map-append f xs ys) ∙ sym (cons-append (f x) (filter_map f xs) (filter_map f ys))
 
 pub answers-append : (g : Goal) (us vs : List Tree) → answers g (us ++ vs) ≡ answers g us ++ answers g vs
-answers-append g us vs = ap (map (answer g)) (filter_map-append (unifier g.term) us vs) ∙ map-append (answer g) (filter_map (unifier g.term) us) (filter_map (unifier g.term) vs)
+answers-append g us vs =
+    ap (map (answer g)) (filter_map-append (unifier g.term) us vs) ∙ map-append (answer g) (filter_map (unifier g.term) us) (filter_map (unifier g.term) vs)
 
 pub answers_one : (g : Goal) (u : Tree) (m : Map) → unifier g.term u ≡ Some m → answers g (u ∷ []) ≡ answer g m ∷ []
 answers_one g u m e = ap (λ o. map (answer g) (cons_option o [])) e
@@ -95,7 +97,9 @@ front_of : (es : List (List ℕ × ℕ)) (i : ℕ) (e : List ℕ × ℕ) → i <
 front_of es i e h is = drop_more es i e h ∙ ap (λ d. d ∷ drop (i + 1) es) (sym is)
 
 over_by : (vs : Values) (e : List ℕ × ℕ) (es : List (List ℕ × ℕ)) (t : Tree) → value_at vs e.1 ≡ Some t → (b : Bool)
-    → list_any is_too_large (map (λ e. value_or vs e.1) (cond b (e ∷ filter is_shown es) (filter is_shown es))) ≡ ((b && is_too_large t) || list_any is_too_large (shown_values vs es))
+    →
+    list_any is_too_large (map (λ e. value_or vs e.1) (cond b (e ∷ filter is_shown es) (filter is_shown es)))
+    ≡ ((b && is_too_large t) || list_any is_too_large (shown_values vs es))
 over_by vs e es t h true = ap (λ u. is_too_large u || list_any is_too_large (shown_values vs es)) (value_known vs e t h)
 over_by vs e es t h false = refl
 
@@ -111,7 +115,8 @@ bound_by vs e es t h true = ap (λ u. (e.0, u) ∷ shown_bindings vs es) (value_
 bound_by vs e es t h false = refl
 
 -- the bindings from a place on, behind others
-pub bound_further : (vs : Values) (es : List (List ℕ × ℕ)) (i : ℕ) (e : List ℕ × ℕ) (t : Tree) (old new : Bindings) → i < length es → e ≡ get_or es i e → value_at vs e.1 ≡ Some t
+pub bound_further : (vs : Values) (es : List (List ℕ × ℕ)) (i : ℕ) (e : List ℕ × ℕ) (t : Tree) (old new : Bindings) → i < length es → e ≡ get_or es i e →
+    value_at vs e.1 ≡ Some t
     → new ≡ old ++ cond (is_shown e) ((e.0, t) ∷ []) [] → new ++ shown_bindings vs (drop (i + 1) es) ≡ old ++ shown_bindings vs (drop i es)
 bound_further vs es i e t old new h is v writes =
     ap (λ bs. bs ++ shown_bindings vs (drop (i + 1) es)) writes

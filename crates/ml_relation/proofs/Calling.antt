@@ -5,11 +5,11 @@ use Rattle.std.specs.Prelude.{is_some, ◌==◌}
 use Rattle.std.proofs.lemmas.Slice.Eq.{bytes_eq-Decides}
 use Rattle.ml_term.specs.Tree.{Trees, compound, no_trees, tree, trees_of, list_of, arity}
 use Rattle.ml_search.specs.Program.{Program}
-use Rattle.ml_search.specs.Names.{named}
-use Rattle.ml_search.specs.Bodies.{taken, other, goal_term}
-use Rattle.ml_search.specs.Builtins.{with, or_else, builtin, is_plain, type_tests, built_2, built_3, order_tests, value_tests}
-use Rattle.ml_search.specs.Known.{is_reserved, has_name, control_names, store_names, known, store_known, declared_known}
-use Rattle.ml_search.specs.Table.{declared, as_tuple}
+use Rattle.ml_search.specs.Names.{look_up}
+use Rattle.ml_search.specs.Bodies.{body_from, predication, goal_term}
+use Rattle.ml_search.specs.Builtins.{with, or_else, builtin, is_plain, type_tests, builtins_2, builtins_3, order_tests, value_tests}
+use Rattle.ml_search.specs.Procedures.{is_reserved, has_name, control_names, store_names, procedure_of, store_procedure, declared_procedure}
+use Rattle.ml_search.specs.Actions.{declared_predicate, as_tuple}
 
 neither : (a b : Bool) → (a || b) ≡ false → (a ≡ false) × (b ≡ false)
 neither true b e = cc
@@ -24,7 +24,8 @@ both_true true e = e
 both_true false e = refl
 
 other_way : (f g : List ℕ) → bytes_eq f g ≡ false → bytes_eq g f ≡ false
-other_way f g e = false_unless _ (λ h. let same : g ≡ f = (bytes_eq-Decides g f).0 h in let again : bytes_eq f g ≡ true = (bytes_eq-Decides f g).1 (sym same) in cc)
+other_way f g e =
+    false_unless _ (λ h. let same : g ≡ f = (bytes_eq-Decides g f).0 h in let again : bytes_eq f g ≡ true = (bytes_eq-Decides f g).1 (sym same) in cc)
 
 -- no entry of a table has this name and arity
 abbrev Lacks : List (List ℕ × ℕ) → List ℕ → ℕ → Type 0
@@ -48,7 +49,7 @@ is_free f n e =
     record { control = lacks control_names f n listed.0; store = lacks store_names f n listed.1; plain = built.1 }
 
 -- it is taken in as a call of another predicate
-pub taken_is : (f : List ℕ) (ts : Trees) → 1 ≤ arity ts → is_reserved f (arity ts) ≡ false → taken (compound f ts) ≡ other f (list_of ts)
+pub taken_is : (f : List ℕ) (ts : Trees) → 1 ≤ arity ts → is_reserved f (arity ts) ≡ false → body_from (compound f ts) ≡ predication f (list_of ts)
 taken_is f no_trees some e = absurd (omega arith)
 taken_is f (tree t no_trees) some e =
     let c = (is_free f 1 e).control in
@@ -60,7 +61,12 @@ taken_is f (tree t no_trees) some e =
     ) refl
 taken_is f (tree t (tree u no_trees)) some e =
     let c = (is_free f 2 e).control in
-    rw (other_way (codes ",") f (both_true _ c.1.1.1.0), other_way (codes ";") f (both_true _ c.1.1.1.1.0), other_way (codes "->") f (both_true _ c.1.1.1.1.1.0)) refl
+    rw (
+      other_way (codes ",") f (both_true _ c.1.1.1.0),
+      other_way (codes ";") f (both_true _ c.1.1.1.1.0),
+      other_way (codes "->") f
+          (both_true _ c.1.1.1.1.1.0),
+    ) refl
 taken_is f (tree t (tree u (tree v no_trees))) some e =
     let c = (is_free f 3 e).control in
     rw (other_way (codes "findall") f (both_true _ c.1.1.1.1.1.1.1.1.1.0), other_way (codes "catch") f (both_true _ c.1.1.1.1.1.1.1.1.1.1.0)) refl
@@ -89,16 +95,17 @@ neither_there (Some a) b e h = cc
 -- it is no plain built-in
 no_builtin : (f : List ℕ) (ts : Trees) → is_plain f (arity ts) ≡ false → builtin f (list_of ts) ≡ None
 no_builtin f no_trees e = refl
-no_builtin f (tree t no_trees) e = none_of _ _ (named type_tests f) (no_some _ e)
+no_builtin f (tree t no_trees) e = none_of _ _ (look_up type_tests f) (no_some _ e)
 no_builtin f (tree t (tree u no_trees)) e =
     let first = neither_made _ _ e in
     let second = neither_made _ _ first.1 in
-    neither_there _ _ (none_of _ _ (named built_2 f) first.0) (neither_there _ _ (none_of _ _ (named order_tests f) second.0) (none_of _ _ (named value_tests f) (no_some _ second.1)))
-no_builtin f (tree t (tree u (tree v no_trees))) e = none_of _ _ (named built_3 f) (no_some _ e)
+    neither_there _ _ (none_of _ _ (look_up builtins_2 f) first.0)
+    (neither_there _ _ (none_of _ _ (look_up order_tests f) second.0) (none_of _ _ (look_up value_tests f) (no_some _ second.1)))
+no_builtin f (tree t (tree u (tree v no_trees))) e = none_of _ _ (look_up builtins_3 f) (no_some _ e)
 no_builtin f (tree t (tree u (tree v (tree w ts)))) e = refl
 
 -- it changes no list
-no_store : (program : Program) (f : List ℕ) (ts : Trees) → Lacks store_names f (arity ts) → store_known program f (list_of ts) ≡ None
+no_store : (program : Program) (f : List ℕ) (ts : Trees) → Lacks store_names f (arity ts) → store_procedure program f (list_of ts) ≡ None
 no_store program f no_trees l = refl
 no_store program f (tree t no_trees) l =
     rw (both_true _ l.0, both_true _ l.1.0, both_true _ l.1.1.1.0, both_true _ l.1.1.0, both_true _ l.1.1.1.1.0) refl
@@ -109,8 +116,9 @@ length-list_of no_trees = refl
 length-list_of (tree t ts) = omega (arith, length-list_of ts)
 
 -- it is the declared predicate
-pub known_is : (program : Program) (f : List ℕ) (ts : Trees) (d : ℕ) → is_reserved f (arity ts) ≡ false → declared_known program f (arity ts) ≡ Some (declared as_tuple d)
-    → known program f (list_of ts) ≡ declared as_tuple d
+pub known_is : (program : Program) (f : List ℕ) (ts : Trees) (d : ℕ) → is_reserved f (arity ts) ≡ false →
+    declared_procedure program f (arity ts) ≡ Some (declared_predicate as_tuple d)
+    → procedure_of program f (list_of ts) ≡ declared_predicate as_tuple d
 known_is program f ts d e is =
     let free = is_free f (arity ts) e in
     rw (no_builtin f ts free.plain, no_store program f ts free.store, length-list_of ts, is) refl

@@ -1,5 +1,6 @@
 -- What a term is that is a call of a declared relation, and the list that it is called over.
-use Rattle.std.proofs.Common.{◌≡◌, ℕ, zero, suc, ◌+◌, ◌≤◌, Bool, true, false, ◌&&◌, ◌||◌, nat_le, nat_eq, not, List, [], ◌∷◌, cond, Option, Some, None, refl, ap, ◌∙◌, subst, arith}
+use Rattle.std.proofs.Common.{◌≡◌, ℕ, zero, suc, ◌+◌, ◌≤◌, Bool, true, false, ◌&&◌, ◌||◌, nat_le, nat_eq, not, List, [], ◌∷◌, cond, Option, Some, None, refl}
+use Rattle.std.proofs.Common.{ap, ◌∙◌, subst, arith}
 use Rattle.std.specs.Prelude.{option_map, unwrap_or, slice_get, ◌==◌}
 use Rattle.std.specs.Str.{bytes_eq}
 use Rattle.std.specs.List.{list_all}
@@ -9,13 +10,13 @@ use Rattle.ml_term.specs.Keys.{are_keys, are_different, arguments}
 use Rattle.ml_term.specs.declared.declaration.Decl.{Decl}
 use Rattle.ml_term.specs.declared.declaration.Kind.{Kind}
 use Rattle.ml_term.specs.declared.declaration.Kind.TheVariants.{Relation, Clauses}
-use Rattle.ml_term.proofs.Columns.{and_first, and_second}
+use Rattle.ml_term.proofs.KeyColumns.{and_first, and_second}
 use Rattle.ml_search.specs.Program.{Program, arity_of, has_predicate, place_of, declaration_of, holds_of, is_relation}
 use Rattle.ml_search.specs.TypeTests.{is_atom, is_compound}
 use Rattle.ml_search.specs.WellFormed.{is_clause_head}
-use Rattle.ml_search.specs.Known.{is_reserved, declared_known, called_as}
-use Rattle.ml_search.specs.Table.{declared, as_tuple}
-use Rattle.ml_search.specs.Db.{items, loaded, loaded_from, terms as terms_of}
+use Rattle.ml_search.specs.Procedures.{is_reserved, declared_procedure, usage_of}
+use Rattle.ml_search.specs.Actions.{declared_predicate, as_tuple}
+use Rattle.ml_search.specs.Db.{items, load_lists, load_list_from, terms as terms_of}
 use Rattle.ml_relation.specs.Calls.{is_call_of_relation, place_called, terms_at}
 
 -- a declaration has an argument
@@ -42,7 +43,8 @@ found_has : (ds : List Decl) (f : List ℕ) (n : ℕ) (d : Decl) → declaration
 found_has [] f n d e = cc
 found_has (c ∷ ds) f n d e = by (has_predicate f n c) refl (found_has ds f n d) e
   where
-    by : (b : Bool) → has_predicate f n c ≡ b → (declaration_of ds f n ≡ Some d → has_predicate f n d ≡ true) → cond b (Some c) (declaration_of ds f n) ≡ Some d → has_predicate f n d ≡ true
+    by : (b : Bool) → has_predicate f n c ≡ b → (declaration_of ds f n ≡ Some d → has_predicate f n d ≡ true) →
+        cond b (Some c) (declaration_of ds f n) ≡ Some d → has_predicate f n d ≡ true
     by true h rest e = let same : c ≡ d = cc in subst (λ d. has_predicate f n d ≡ true) same h
     by false h rest e = rest e
 
@@ -65,26 +67,31 @@ pub record IsCall (program : Program) (t : Tree) : Type 0 where
   pub is : t ≡ compound name args
   pub some : 1 ≤ arity args
   pub free : is_reserved name (arity args) ≡ false
-  pub known : declared_known program name (arity args) ≡ Some (declared as_tuple (place_called program.decls t))
+  pub known : declared_procedure program name (arity args) ≡ Some (declared_predicate as_tuple (place_called program.decls t))
 
 same_number : (f : List ℕ) (n : ℕ) (d : Decl) → has_predicate f n d ≡ true → d.pred.arity ≡ n
 same_number f n d h = let tested : nat_eq d.pred.arity n ≡ true = and_second (bytes_eq d.pred.name f) (d.pred.arity == n) h in grind (arith, nat_tests)
 
-known_as : (program : Program) (f : List ℕ) (n : ℕ) (d : IsDeclared program.decls f n) → declared_known program f n ≡ Some (declared as_tuple (unwrap_or (place_of program.decls f n) 0))
+known_as : (program : Program) (f : List ℕ) (n : ℕ) (d : IsDeclared program.decls f n) →
+    declared_procedure program f n ≡ Some (declared_predicate as_tuple (unwrap_or (place_of program.decls f n) 0))
 known_as program f n d =
-    ap (option_map (λ (d : Decl). declared (called_as program d.kind) (unwrap_or (place_of program.decls f n) 0))) d.found
-    ∙ ap (λ k. Some (declared (called_as program k) (unwrap_or (place_of program.decls f n) 0))) d.kind
+    ap (option_map (λ (d : Decl). declared_predicate (usage_of program d.kind) (unwrap_or (place_of program.decls f n) 0))) d.found
+    ∙ ap (λ k. Some (declared_predicate (usage_of program k) (unwrap_or (place_of program.decls f n) 0))) d.kind
 
 pub call_is : (program : Program) (t : Tree) → is_call_of_relation program.decls t ≡ true → IsCall program t
 call_is program (variable n) h = cc
 call_is program (integer z) h = cc
 call_is program (atom f) h =
-    let d = is_declared program.decls f 0 (declaration_of program.decls f 0) refl (and_second (is_clause_head (atom f)) (holds_of is_relation (declaration_of program.decls f 0)) h) in
+    let d =
+    is_declared program.decls f 0 (declaration_of program.decls f 0) refl
+    (and_second (is_clause_head (atom f)) (holds_of is_relation (declaration_of program.decls f 0)) h) in
     absurd (let e : d.decl.pred.arity ≡ 0 = same_number f 0 d.decl d.has in omega (arith, e, some_arguments d.decl))
 call_is program (compound f ts) h =
     let n = arity ts in
     let head = and_first (is_clause_head (compound f ts)) (holds_of is_relation (declaration_of program.decls f n)) h in
-    let d = is_declared program.decls f n (declaration_of program.decls f n) refl (and_second (is_clause_head (compound f ts)) (holds_of is_relation (declaration_of program.decls f n)) h) in
+    let d =
+    is_declared program.decls f n (declaration_of program.decls f n) refl
+    (and_second (is_clause_head (compound f ts)) (holds_of is_relation (declaration_of program.decls f n)) h) in
     record {
       name = f;
       args = ts;
@@ -95,11 +102,11 @@ call_is program (compound f ts) h =
     }
 
 -- the terms of a loaded list
-terms_loaded : (k : ℕ) (ts : List Tree) → terms_of (loaded_from k ts) ≡ ts
+terms_loaded : (k : ℕ) (ts : List Tree) → terms_of (load_list_from k ts) ≡ ts
 terms_loaded k [] = refl
 terms_loaded k (t ∷ ts) = ap (λ us. t ∷ us) (terms_loaded (1 + k) ts)
 
-pub items_are : (lists : List (List Tree)) (d : ℕ) → terms_of (items (loaded lists) d) ≡ terms_at lists d
+pub items_are : (lists : List (List Tree)) (d : ℕ) → terms_of (items (load_lists lists) d) ≡ terms_at lists d
 items_are [] d = refl
 items_are (ts ∷ lists) zero = terms_loaded 0 ts
 items_are (ts ∷ lists) (suc d) = items_are lists d

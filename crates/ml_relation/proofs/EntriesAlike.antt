@@ -3,26 +3,26 @@ use Rattle.std.proofs.Common.{◌≡◌, ℕ, zero, suc, ◌+◌, Bool, true, fa
 use Rattle.std.specs.Prelude.{slice_get}
 use Rattle.std.specs.List.{list_all}
 use Rattle.ml_term.specs.Tree.{Tree}
-use Rattle.ml_term.proofs.Columns.{and_first, and_second}
+use Rattle.ml_term.proofs.KeyColumns.{and_first, and_second}
 use Rattle.ml_search.specs.Program.{Program, Script}
-use Rattle.ml_search.specs.Db.{at, Db, loaded, loaded_from}
-use Rattle.ml_search.specs.History.{item_at, committed_at, script_of, db_after, ran, history_from}
+use Rattle.ml_search.specs.Db.{at, Db, load_lists, load_list_from}
+use Rattle.ml_search.specs.History.{item_at, commit_at, script_of, db_after, session_result, history_from}
 use Rattle.ml_relation.specs.Calls.{is_of_relations}
 use Rattle.ml_relation.specs.Entries.{entry_over}
 use Rattle.ml_relation.proofs.SessionsPlayed.{ListsGround, session_leaves}
 
 -- loaded items keep their place
-list_stays : (k n : ℕ) (ts : List Tree) → map (item_at k) (loaded_from n ts) ≡ loaded_from n ts
+list_stays : (k n : ℕ) (ts : List Tree) → map (item_at k) (load_list_from n ts) ≡ load_list_from n ts
 list_stays k n [] = refl
 list_stays k n (t ∷ ts) = ap (λ is. record { id = record { place = at 0; change = n }; term = t } ∷ is) (list_stays k (1 + n) ts)
 
-lists_stay : (k : ℕ) (lists : List (List Tree)) → committed_at k (loaded lists) ≡ loaded lists
+lists_stay : (k : ℕ) (lists : List (List Tree)) → commit_at k (load_lists lists) ≡ load_lists lists
 lists_stay k [] = refl
-lists_stay k (ts ∷ lists) = ap (λ is. is ∷ committed_at k (loaded lists)) (list_stays k 0 ts) ∙ ap (λ db. loaded_from 0 ts ∷ db) (lists_stay k lists)
+lists_stay k (ts ∷ lists) = ap (λ is. is ∷ commit_at k (load_lists lists)) (list_stays k 0 ts) ∙ ap (λ db. load_list_from 0 ts ∷ db) (lists_stay k lists)
 
 module _ (program : Program) (lists : List (List Tree)) (ground : ListsGround lists) (scripts : List Script) where
   abbrev db : Db
-  db = loaded lists
+  db = load_lists lists
 
   abbrev Of : Option Script → Type 0
   Of None = Unit {0}
@@ -37,10 +37,10 @@ module _ (program : Program) (lists : List (List Tree)) (ground : ListsGround li
   numbered zero h = tt
   numbered (suc n) h = script_at scripts n h
 
-  after : (o : Option Script) (out_of_memory : Bool) (k : ℕ) → Of o → db_after (ran program o out_of_memory db) k db ≡ db
+  after : (o : Option Script) (out_of_memory : Bool) (k : ℕ) → Of o → db_after (session_result program o out_of_memory db) k db ≡ db
   after None out_of_memory k h = refl
   after (Some s) true k h = refl
-  after (Some s) false k h = ap (committed_at k) (session_leaves program lists ground s h) ∙ lists_stay k lists
+  after (Some s) false k h = ap (commit_at k) (session_leaves program lists ground s h) ∙ lists_stay k lists
 
   pub entries_alike : (order : List (ℕ × Bool)) (k : ℕ) → list_all (is_of_relations program.decls) scripts ≡ true
       → history_from program k db scripts order ≡ (map (entry_over program db scripts) order, db)

@@ -1,5 +1,6 @@
 -- Items put into the lists of their declarations one after another.
-use Rattle.std.proofs.Common.{◌≡◌, ℕ, zero, suc, ◌+◌, ◌<◌, Bool, true, false, nat_eq, List, [], ◌∷◌, ◌++◌, length, Option, Some, None, replicate, refl, sym, ap, ◌∙◌, subst, append_assoc, append-nil, cond, arith}
+use Rattle.std.proofs.Common.{◌≡◌, ℕ, zero, suc, ◌+◌, ◌<◌, Bool, true, false, nat_eq, List, [], ◌∷◌, ◌++◌, length, Option, Some, None, replicate, refl, sym, ap}
+use Rattle.std.proofs.Common.{◌∙◌, subst, append_assoc, append-nil, cond, arith}
 use Rattle.std.specs.Prelude.{slice_get, ◌==◌}
 use Rattle.std.specs.List.{list_all, All, cons_option}
 use Rattle.std.specs.Str.{bytes_eq}
@@ -10,7 +11,7 @@ use Rattle.ml_term.specs.Valid.{is_valid}
 use Rattle.ml_term.specs.declared.declaration.Decl.{Decl}
 use Rattle.ml_term.specs.declared.declaration.Kind.{Kind}
 use Rattle.ml_term.specs.declared.declaration.Kind.TheVariants.{Relation, Clauses}
-use Rattle.ml_term.proofs.Columns.{and_first, and_second}
+use Rattle.ml_term.proofs.KeyColumns.{and_first, and_second}
 use Rattle.ml_search.specs.Program.{holds_of, is_relation, is_of}
 use Rattle.ml_search.specs.Db.{is_allowed, is_tuple}
 use Rattle.ml_search.specs.Loading.{are_items, terms_for, first_list, first_lists_from}
@@ -40,7 +41,8 @@ earlier d k t (ts ∷ lists) es h =
     ap (λ us. (ts ++ us) ∷ joined (1 + d) lists ((k, t) ∷ es)) (other_place d k t es other)
     ∙ ap (λ us. (ts ++ terms_for d es) ∷ us) (earlier (1 + d) k t lists es (omega arith))
 
-put_behind : (d k : ℕ) (t : Tree) (lists : List (List Tree)) (es : List (ℕ × Tree)) (p : ℕ) → p ≡ d + k → joined d (with_term lists k t) es ≡ joined d lists ((p, t) ∷ es)
+put_behind : (d k : ℕ) (t : Tree) (lists : List (List Tree)) (es : List (ℕ × Tree)) (p : ℕ) → p ≡ d + k →
+    joined d (with_term lists k t) es ≡ joined d lists ((p, t) ∷ es)
 put_behind d k t [] es p q = refl
 put_behind d zero t (ts ∷ lists) es p q =
     let this : nat_eq p d ≡ true = grind (arith, nat_tests) in
@@ -113,10 +115,12 @@ abbrev pub IsItemAt : Option Decl → Tree → Type 0
 IsItemAt None t = ⊥
 IsItemAt (Some q) t = IsItem q t
 
-item_at : (ds : List Decl) (o : Option Decl) (k : ℕ) (t : Tree) → slice_get ds k ≡ o → list_all is_relation ds ≡ true → holds_of (λ d. is_allowed d t) o ≡ true → IsItemAt (slice_get ds k) t
+item_at : (ds : List Decl) (o : Option Decl) (k : ℕ) (t : Tree) → slice_get ds k ≡ o → list_all is_relation ds ≡ true →
+    holds_of (λ d. is_allowed d t) o ≡ true → IsItemAt (slice_get ds k) t
 item_at [] None k t e r h = cc
 item_at [] (Some q) k t e r h = cc
-item_at (q ∷ ds) o zero t e r h = item_by q q.kind t refl (and_first (is_relation q) (list_all is_relation ds) r) (subst (λ o. holds_of (λ d. is_allowed d t) o ≡ true) (sym e) h)
+item_at (q ∷ ds) o zero t e r h =
+    item_by q q.kind t refl (and_first (is_relation q) (list_all is_relation ds) r) (subst (λ o. holds_of (λ d. is_allowed d t) o ≡ true) (sym e) h)
 item_at (q ∷ ds) o (suc k) t e r h = item_at ds o k t e (and_second (is_relation q) (list_all is_relation ds) r) h
 
 -- all items are items of their declarations
@@ -163,7 +167,8 @@ terms_sized ds d q (x ∷ es) e h = by (terms_sized ds d q es e h.1) (nat_eq x.0
         All-cons (HasSize q) x.1 (terms_for d es) (item_sized (slice_get ds x.0) q x.1 (ap (slice_get ds) same ∙ e) h.0) rest
     by rest false p = rest
 
-sized_from : (ds : List Decl) (d : ℕ) (qs : List Decl) (es : List (ℕ × Tree)) → ((k : ℕ) → slice_get ds (d + k) ≡ slice_get qs k) → AllItems ds es → AreSized qs (gathered d qs es)
+sized_from : (ds : List Decl) (d : ℕ) (qs : List Decl) (es : List (ℕ × Tree)) → ((k : ℕ) → slice_get ds (d + k) ≡ slice_get qs k) → AllItems ds es →
+    AreSized qs (gathered d qs es)
 sized_from ds d [] es same h = tt
 sized_from ds d (q ∷ qs) es same h =
     let here : d ≡ d + 0 = omega arith in (

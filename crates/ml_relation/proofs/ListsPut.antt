@@ -1,5 +1,6 @@
 -- Lists of tuples, and what the code does with one of them.
-use Rattle.std.proofs.Common.{◌≡◌, ℕ, zero, suc, ◌+◌, ◌<◌, Some, List, [], ◌∷◌, ◌++◌, length, get_or, drop, replicate, slice_set, refl, sym, ap, ◌∙◌, subst, append_assoc, append-nil, arith}
+use Rattle.std.proofs.Common.{◌≡◌, ℕ, zero, suc, ◌+◌, ◌<◌, Some, List, [], ◌∷◌, ◌++◌, length, get_or, drop, replicate, slice_set, refl, sym, ap, ◌∙◌, subst}
+use Rattle.std.proofs.Common.{append_assoc, append-nil, arith}
 use Rattle.std.specs.Prelude.{Vec, slice_get}
 use Rattle.std.specs.List.{All}
 use Rattle.std.specs.declared.alloc.Global.{Global}
@@ -23,7 +24,8 @@ put_there (l ∷ ls) zero v w t h is e =
 put_there (l ∷ ls) (suc k) v w t h is e = ap (λ us. trees l.items ∷ us) (put_there ls k v w t (omega arith) is e)
 
 -- the first list that is left has terms of the right sizes
-pub first_sized : (ds : List Decl) (k : ℕ) (d : Decl) (ts : List Tree) (rest : List (List Tree)) → k < length ds → slice_get ds k ≡ Some d → AreSized (drop k ds) (ts ∷ rest)
+pub first_sized : (ds : List Decl) (k : ℕ) (d : Decl) (ts : List Tree) (rest : List (List Tree)) → k < length ds → slice_get ds k ≡ Some d →
+    AreSized (drop k ds) (ts ∷ rest)
     → All (λ t. size t ≡ d.pred.arity) ts × AreSized (drop (k + 1) ds) rest
 first_sized ds k d ts rest h e sized = subst (λ qs. AreSized qs (ts ∷ rest)) (front ds k d h e) sized
 
@@ -62,7 +64,9 @@ nothing_left (d ∷ ds) = refl
 pub all_ordered : (ds : List Decl) (sorted : List (Vec Tuple Global)) (rest all : List (List Tree)) → rest ≡ []
     → all_trees sorted ++ in_order (drop (length sorted) ds) rest ≡ all → all_trees sorted ≡ all
 all_ordered ds sorted rest all e so_far =
-    sym (ap (λ us. all_trees sorted ++ in_order (drop (length sorted) ds) us) e ∙ ap (λ us. all_trees sorted ++ us) (nothing_left (drop (length sorted) ds)) ∙ append-nil (all_trees sorted)) ∙ so_far
+    sym
+    (ap (λ us. all_trees sorted ++ in_order (drop (length sorted) ds) us) e ∙ ap (λ us. all_trees sorted ++ us) (nothing_left (drop (length sorted) ds))
+    ∙ append-nil (all_trees sorted)) ∙ so_far
 
 -- as many lists as there are
 pub as_many : (ls : List (Vec Tuple Global)) (n : ℕ) → all_trees ls ≡ replicate n [] → length ls ≡ n

@@ -1,5 +1,6 @@
 -- Lists that are looked at from the left.
-use Rattle.std.proofs.Common.{◌≡◌, ℕ, zero, suc, ◌+◌, ◌<◌, ◌≤◌, Bool, true, false, ◌&&◌, List, [], ◌∷◌, length, get_or, drop, cond, Option, Some, None, refl, sym, ap, ◌∙◌, arith}
+use Rattle.std.proofs.Common.{◌≡◌, ℕ, zero, suc, ◌+◌, ◌<◌, ◌≤◌, Bool, true, false, ◌&&◌, List, [], ◌∷◌, length, get_or, drop, cond, Option, Some, None, refl}
+use Rattle.std.proofs.Common.{sym, ap, ◌∙◌, arith}
 use Rattle.std.specs.Prelude.{option_map, slice_get}
 use Rattle.std.specs.List.{list_all}
 use Rattle.std.proofs.lemmas.List.{drop_more, drop_all}
@@ -20,7 +21,8 @@ pub front : {X : Type 0} (xs : List X) (i : ℕ) (x : X) → i < length xs → s
 front xs i x h e = drop_more xs i x h ∙ ap (λ y. y ∷ drop (i + 1) xs) (at_place xs i x e)
 
 -- a test of all values
-pub all_but_one : {X : Type 0} (p : X → Bool) (xs : List X) (i : ℕ) (x : X) → i < length xs → slice_get xs i ≡ Some x → p x ≡ true → list_all p (drop i xs) ≡ list_all p (drop (i + 1) xs)
+pub all_but_one : {X : Type 0} (p : X → Bool) (xs : List X) (i : ℕ) (x : X) → i < length xs → slice_get xs i ≡ Some x → p x ≡ true →
+    list_all p (drop i xs) ≡ list_all p (drop (i + 1) xs)
 all_but_one p xs i x h e t = ap (list_all p) (front xs i x h e) ∙ rw t refl
 
 pub not_all : {X : Type 0} (p : X → Bool) (xs : List X) (i : ℕ) (x : X) → i < length xs → slice_get xs i ≡ Some x → p x ≡ false → list_all p (drop i xs) ≡ false
@@ -33,7 +35,8 @@ all_of_none p xs i h = ap (list_all p) (drop_all i xs h)
 abbrev pub place_from : ℕ → List Decl → List ℕ → ℕ → Option ℕ
 place_from i ds f n = option_map (λ k. i + k) (place_of (drop i ds) f n)
 
-pub place_here : (ds : List Decl) (i : ℕ) (d : Decl) (f : List ℕ) (n : ℕ) → i < length ds → slice_get ds i ≡ Some d → has_predicate f n d ≡ true → place_from i ds f n ≡ Some i
+pub place_here : (ds : List Decl) (i : ℕ) (d : Decl) (f : List ℕ) (n : ℕ) → i < length ds → slice_get ds i ≡ Some d → has_predicate f n d ≡ true →
+    place_from i ds f n ≡ Some i
 place_here ds i d f n h e t =
     let none : i + 0 ≡ i = omega arith in
     ap (λ cs. option_map (λ k. i + k) (place_of cs f n)) (front ds i d h e)
@@ -44,7 +47,8 @@ one_later : (i : ℕ) (o : Option ℕ) → option_map (λ k. i + k) (option_map 
 one_later i None = refl
 one_later i (Some k) = let later : i + suc k ≡ (i + 1) + k = omega arith in ap Some later
 
-pub place_next : (ds : List Decl) (i : ℕ) (d : Decl) (f : List ℕ) (n : ℕ) → i < length ds → slice_get ds i ≡ Some d → has_predicate f n d ≡ false → place_from i ds f n ≡ place_from (i + 1) ds f n
+pub place_next : (ds : List Decl) (i : ℕ) (d : Decl) (f : List ℕ) (n : ℕ) → i < length ds → slice_get ds i ≡ Some d → has_predicate f n d ≡ false →
+    place_from i ds f n ≡ place_from (i + 1) ds f n
 place_next ds i d f n h e t =
     ap (λ cs. option_map (λ k. i + k) (place_of cs f n)) (front ds i d h e)
     ∙ ap (λ b. option_map (λ k. i + k) (cond b (Some 0) (option_map suc (place_of (drop (i + 1) ds) f n)))) t

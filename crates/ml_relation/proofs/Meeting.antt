@@ -1,17 +1,18 @@
 -- A term meets another one exactly where some substitution with the values so far makes it that term.
-use Rattle.std.proofs.Common.{◌≡◌, ℕ, zero, suc, ◌<◌, Bool, true, false, ℤ, ◌⊎◌, List, [], ◌∷◌, length, Option, Some, None, inl, inr, refl, sym, ap, ◌∙◌, subst, arith, if◌then◌else◌}
+use Rattle.std.proofs.Common.{◌≡◌, ℕ, zero, suc, ◌<◌, Bool, true, false, ℤ, ◌⊎◌, List, [], ◌∷◌, length, Option, Some, None, inl, inr, refl, sym, ap, ◌∙◌, subst}
+use Rattle.std.proofs.Common.{arith, if◌then◌else◌}
 use Rattle.std.specs.Prelude.{option_and_then}
 use Rattle.std.specs.Str.{bytes_eq}
 use Rattle.std.specs.Ordering.{int_eq}
 use Rattle.std.proofs.lemmas.Slice.Eq.{bytes_eq-Decides}
 use Rattle.std.proofs.lemmas.Bool.Decides.{Decides-int_eq, nat_tests, eqb_tells}
-use Rattle.ml_term.specs.Tree.{Tree, Trees, variable, integer, atom, compound, no_trees, tree, variables, variables_of, substituted, substituted_in, is_ground}
+use Rattle.ml_term.specs.Tree.{Tree, Trees, variable, integer, atom, compound, no_trees, tree, variables, variables_of, substitute, substitute_in, is_ground}
 use Rattle.ml_term.specs.Unify.{value_of, unifier}
-use Rattle.ml_term.proofs.Distinct.{In}
+use Rattle.ml_term.proofs.DistinctCounts.{In}
 use Rattle.ml_term.proofs.UnificationEnds.{in_either}
-use Rattle.ml_term.proofs.Columns.{and_first, and_second}
-use Rattle.ml_term.proofs.OneUnifier.{some_or_none, unifier_found}
-use Rattle.ml_term.proofs.Ground.{ground_stays, gives_the_tuple, gives_one}
+use Rattle.ml_term.proofs.KeyColumns.{and_first, and_second}
+use Rattle.ml_term.proofs.UnifierIsOne.{some_or_none, unifier_found}
+use Rattle.ml_term.proofs.GroundTerms.{ground_stays, gives_the_tuple, gives_one}
 use Rattle.ml_search.specs.Db.{is_same}
 use Rattle.ml_relation.specs.Below.{is_below, are_below}
 use Rattle.ml_relation.specs.Matching.{Values, value_at, with_value, taken_by, matched, all_matched, AreUnset, Meets}
@@ -26,11 +27,11 @@ pub record Met (t u : Tree) (vs ws : Values) : Type 0 where
   pub size : length ws ≡ length vs
   pub keeps : (n : ℕ) (v : Tree) → value_at vs n ≡ Some v → value_at ws n ≡ Some v
   pub has : (n : ℕ) → In n (variables t) → (v : Tree) × (value_at ws n ≡ Some v)
-  pub becomes : (s : ℕ → Tree) → Agrees s ws → substituted s t ≡ u
-  pub only : (s : ℕ → Tree) → Agrees s vs → substituted s t ≡ u → Agrees s ws
+  pub becomes : (s : ℕ → Tree) → Agrees s ws → substitute s t ≡ u
+  pub only : (s : ℕ → Tree) → Agrees s vs → substitute s t ≡ u → Agrees s ws
 
 abbrev pub Answer : Tree → Tree → Values → Option Values → Type 0
-Answer t u vs None = (s : ℕ → Tree) → Agrees s vs → substituted s t ≡ u → ⊥
+Answer t u vs None = (s : ℕ → Tree) → Agrees s vs → substitute s t ≡ u → ⊥
 Answer t u vs (Some ws) = Met t u vs ws
 
 -- the same of arguments
@@ -38,11 +39,11 @@ pub record AllMet (ts us : Trees) (vs ws : Values) : Type 0 where
   pub size : length ws ≡ length vs
   pub keeps : (n : ℕ) (v : Tree) → value_at vs n ≡ Some v → value_at ws n ≡ Some v
   pub has : (n : ℕ) → In n (variables_of ts) → (v : Tree) × (value_at ws n ≡ Some v)
-  pub becomes : (s : ℕ → Tree) → Agrees s ws → substituted_in s ts ≡ us
-  pub only : (s : ℕ → Tree) → Agrees s vs → substituted_in s ts ≡ us → Agrees s ws
+  pub becomes : (s : ℕ → Tree) → Agrees s ws → substitute_in s ts ≡ us
+  pub only : (s : ℕ → Tree) → Agrees s vs → substitute_in s ts ≡ us → Agrees s ws
 
 abbrev AllAnswer : Trees → Trees → Values → Option Values → Type 0
-AllAnswer ts us vs None = (s : ℕ → Tree) → Agrees s vs → substituted_in s ts ≡ us → ⊥
+AllAnswer ts us vs None = (s : ℕ → Tree) → Agrees s vs → substitute_in s ts ≡ us → ⊥
 AllAnswer ts us vs (Some ws) = AllMet ts us vs ws
 
 -- values put at places
@@ -86,7 +87,8 @@ without_value n u vs h e = record {
   only = λ s a q k v p. elim (put_or_before vs n k u v p) [ inl b ↦ a k v b | inr b ↦ ap s b.0 ∙ q ∙ sym b.1 ];
 }
 
-with_this_value : (n : ℕ) (u v : Tree) (vs : Values) → value_at vs n ≡ Some v → (b : Bool) → is_same v u ≡ b → Answer (variable n) u vs (if b then Some vs else None)
+with_this_value : (n : ℕ) (u v : Tree) (vs : Values) → value_at vs n ≡ Some v → (b : Bool) → is_same v u ≡ b →
+    Answer (variable n) u vs (if b then Some vs else None)
 with_this_value n u v vs e true q =
     let same : v ≡ u = same_is_equal v u q in
     record {
@@ -105,7 +107,7 @@ variable_answer n u vs None h e = without_value n u vs h e
 variable_answer n u vs (Some v) h e = with_this_value n u v vs e (is_same v u) refl
 
 -- a term without variables that is this one
-same_term : (t : Tree) (vs : Values) → ((n : ℕ) → In n (variables t) → ⊥) → ((s : ℕ → Tree) → substituted s t ≡ t) → Met t t vs vs
+same_term : (t : Tree) (vs : Values) → ((n : ℕ) → In n (variables t) → ⊥) → ((s : ℕ → Tree) → substitute s t ≡ t) → Met t t vs vs
 same_term t vs none stays = record {
   size = refl;
   keeps = λ n v q. q;
@@ -131,7 +133,7 @@ inside f g ts us vs (Some ws) e h = record {
   size = h.size;
   keeps = h.keeps;
   has = h.has;
-  becomes = λ s a. let args : substituted_in s ts ≡ us = h.becomes s a in cc;
+  becomes = λ s a. let args : substitute_in s ts ≡ us = h.becomes s a in cc;
   only = λ s a p. h.only s a (cc);
 }
 
@@ -141,10 +143,11 @@ compound_answer f g ts us vs true e h = inside f g ts us vs (all_matched ts us v
 compound_answer f g ts us vs false e h = λ s a p. let same : f ≡ g = cc in let itself : bytes_eq f g ≡ true = (bytes_eq-Decides f g).1 same in cc
 
 -- arguments: the first, and then the others with the values that came
-others_answer : (t u : Tree) (ts us : Trees) (vs ws : Values) (o : Option Values) → Met t u vs ws → AllAnswer ts us ws o → AllAnswer (tree t ts) (tree u us) vs o
+others_answer : (t u : Tree) (ts us : Trees) (vs ws : Values) (o : Option Values) → Met t u vs ws → AllAnswer ts us ws o →
+    AllAnswer (tree t ts) (tree u us) vs o
 others_answer t u ts us vs ws None m h = λ s a p.
-    let first : substituted s t ≡ u = cc in
-    let behind : substituted_in s ts ≡ us = cc in
+    let first : substitute s t ≡ u = cc in
+    let behind : substitute_in s ts ≡ us = cc in
     h s (m.only s a first) behind
 others_answer t u ts us vs ws (Some xs) m h = record {
   size = h.size ∙ m.size;
@@ -154,12 +157,12 @@ others_answer t u ts us vs ws (Some xs) m h = record {
     | inr j ↦ h.has n j
   ];
   becomes = λ s a.
-      let first : substituted s t ≡ u = m.becomes s (λ n v q. a n v (h.keeps n v q)) in
-      let behind : substituted_in s ts ≡ us = h.becomes s a in
+      let first : substitute s t ≡ u = m.becomes s (λ n v q. a n v (h.keeps n v q)) in
+      let behind : substitute_in s ts ≡ us = h.becomes s a in
       cc;
   only = λ s a p.
-      let first : substituted s t ≡ u = cc in
-      let behind : substituted_in s ts ≡ us = cc in
+      let first : substitute s t ≡ u = cc in
+      let behind : substitute_in s ts ≡ us = cc in
       h.only s (m.only s a first) behind;
 }
 
@@ -212,7 +215,7 @@ meets t u vs ws g h none e =
     let met : Met t u vs ws = subst (Answer t u vs) e (matched_answer t u vs h) in
     let s : ℕ → Tree = λ n. by_values (value_at ws n) n in
     let agrees : Agrees s ws = λ n v q. values_agree (value_at ws n) n v q in
-    let becomes : substituted s t ≡ u = met.becomes s agrees in
+    let becomes : substitute s t ≡ u = met.becomes s agrees in
     let m = unifier_found ((t, u) ∷ []) s (becomes ∙ sym (ground_stays s u g), tt) in
     record {
       unified = m.0;
@@ -223,7 +226,7 @@ meets t u vs ws g h none e =
 -- where it doesn't, they don't
 pub misses : (t u : Tree) (vs : Values) → is_ground u ≡ true → is_below (length vs) t ≡ true → AreUnset vs → matched t u vs ≡ None → unifier t u ≡ None
 misses t u vs g h none e =
-    let missed : (s : ℕ → Tree) → Agrees s vs → substituted s t ≡ u → ⊥ = subst (Answer t u vs) e (matched_answer t u vs h) in
+    let missed : (s : ℕ → Tree) → Agrees s vs → substitute s t ≡ u → ⊥ = subst (Answer t u vs) e (matched_answer t u vs h) in
     elim (some_or_none (unifier t u)) [
       | inl m ↦ absurd (missed (value_of m.0) (any_agrees (value_of m.0) vs none) (gives_the_tuple t u g m.0 m.1))
       | inr q ↦ q

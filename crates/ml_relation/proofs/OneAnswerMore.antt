@@ -1,14 +1,15 @@
 -- The lines of answers, one answer after another.
-use Rattle.std.proofs.Common.{◌≡◌, ℕ, zero, suc, ◌+◌, ◌-◌, Bool, true, false, nat_lt, List, [], ◌∷◌, ◌++◌, length, take, codes, Some, refl, sym, ap, ◌∙◌, append_assoc, append-nil, cond, arith}
+use Rattle.std.proofs.Common.{◌≡◌, ℕ, zero, suc, ◌+◌, ◌-◌, Bool, true, false, nat_lt, List, [], ◌∷◌, ◌++◌, length, take, codes, Some, refl, sym, ap, ◌∙◌}
+use Rattle.std.proofs.Common.{append_assoc, append-nil, cond, arith}
 use Rattle.std.specs.List.{list_any}
 use Rattle.std.specs.Option.{option_or}
 use Rattle.std.proofs.lemmas.Bool.Decides.{nat_tests}
 use Rattle.ml_term.specs.Tree.{Tree}
 use Rattle.ml_search.specs.Program.{Goal}
 use Rattle.ml_search.specs.Errors.{resource_error, is_too_large}
-use Rattle.ml_search.specs.Limits.{most_answer_bytes}
-use Rattle.ml_search.specs.Session.{Written, written, with_line, answer_line, raised_by}
-use Rattle.ml_search.specs.Table.{End, finished, exhausted}
+use Rattle.ml_search.specs.Limits.{max_answer_bytes}
+use Rattle.ml_search.specs.Session.{AnswerLines, answer_lines, with_line, answer_line, error_of_end}
+use Rattle.ml_search.specs.Actions.{End, end_of_answers, out_of_inferences}
 use Rattle.ml_relation.specs.Answering.{within}
 use Rattle.ml_relation.specs.Courses.{Told, Course, goes, stops, course_of, told}
 
@@ -33,7 +34,7 @@ module _ (g : Goal) where
   same_told ls ms b c d e f = ap (λ ls. told_of ls b c) e ∙ ap (told_of ms b) f
 
   abbrev by_parts : List (List Tree) → Bool → ℕ → List (List ℕ) → ℕ → Told
-  by_parts found more left before bytes = told g (record { found = found; end = cond more exhausted finished; left = left }) before bytes
+  by_parts found more left before bytes = told g (record { found = found; end = cond more out_of_inferences end_of_answers; left = left }) before bytes
 
   take_none : (n : ℕ) (xs : List (List Tree)) → xs ≡ [] → take n xs ≡ []
   take_none zero xs e = refl
@@ -58,9 +59,11 @@ module _ (g : Goal) where
       ∙ ap (λ ls. gone n ls bytes) (append-nil before)
 
   -- an answer without an inference for it
-  pub no_inference : (a : List Tree) (zs : List (List Tree)) (before : List (List ℕ)) (bytes : ℕ) → lines_told (a ∷ zs) zero before bytes ≡ stopped (codes "inferences") before bytes
+  pub no_inference : (a : List Tree) (zs : List (List Tree)) (before : List (List ℕ)) (bytes : ℕ) →
+      lines_told (a ∷ zs) zero before bytes ≡ stopped (codes "inferences") before bytes
   no_inference a zs before bytes =
-      ap (λ b. by_parts [] b (zero - length (a ∷ zs)) before bytes) (some_more (length zs)) ∙ ap (λ ls. stopped (codes "inferences") ls bytes) (append-nil before)
+      ap (λ b. by_parts [] b (zero - length (a ∷ zs)) before bytes) (some_more (length zs))
+      ∙ ap (λ ls. stopped (codes "inferences") ls bytes) (append-nil before)
 
   one_further : (n m : ℕ) → nat_lt (suc n) (suc m) ≡ nat_lt n m
   one_further n m = by (nat_lt n m) refl
@@ -72,32 +75,34 @@ module _ (g : Goal) where
   one_less : (n m : ℕ) → suc n - suc m ≡ n - m
   one_less n m = omega arith
 
-  abbrev by_written : Written → End → ℕ → List (List ℕ) → Told
-  by_written w end left before = record { lines = before ++ w.lines; bytes = w.bytes; course = course_of (option_or w.fault (raised_by end)) left }
+  abbrev by_written : AnswerLines → End → ℕ → List (List ℕ) → Told
+  by_written w end left before = record { lines = before ++ w.lines; bytes = w.bytes; course = course_of (option_or w.fault (error_of_end end)) left }
 
-  abbrev failed : List ℕ → ℕ → Written
+  abbrev failed : List ℕ → ℕ → AnswerLines
   failed what bytes = record { lines = []; bytes = bytes; fault = Some (resource_error what) }
 
   -- an answer with an inference for it
   by_tests : (large over : Bool) (l : List ℕ) (zs : List (List Tree)) (n m : ℕ) (before : List (List ℕ)) (bytes : ℕ) → m ≡ length zs
-      → by_written (cond large (failed (codes "term") bytes) (cond over (failed (codes "output") bytes) (with_line l (written g (take n zs) (bytes + length l)))))
-      (cond (nat_lt (suc n) (suc m)) exhausted finished) (suc n - suc m) before
+      →
+      by_written
+      (cond large (failed (codes "term") bytes) (cond over (failed (codes "output") bytes) (with_line l (answer_lines g (take n zs) (bytes + length l)))))
+      (cond (nat_lt (suc n) (suc m)) out_of_inferences end_of_answers) (suc n - suc m) before
       ≡ limited large over before bytes (lines_told zs n (before ++ l ∷ []) (bytes + length l))
   by_tests true over l zs n m before bytes q = ap (λ ls. stopped (codes "term") ls bytes) (append-nil before)
   by_tests false true l zs n m before bytes q = ap (λ ls. stopped (codes "output") ls bytes) (append-nil before)
   by_tests false false l zs n m before bytes q =
-      let w : Written = written g (take n zs) (bytes + length l) in
+      let w : AnswerLines = answer_lines g (take n zs) (bytes + length l) in
       same_told (before ++ l ∷ w.lines) ((before ++ l ∷ []) ++ w.lines) w.bytes _ _ (sym (append_assoc before (l ∷ []) w.lines))
-      (ap (λ b. course_of (option_or w.fault (raised_by (cond b exhausted finished))) (suc n - suc m)) (one_further n m)
-      ∙ ap (course_of (option_or w.fault (raised_by (cond (nat_lt n m) exhausted finished)))) (one_less n m)
-      ∙ ap (λ k. course_of (option_or w.fault (raised_by (cond (nat_lt n k) exhausted finished))) (n - k)) q)
+      (ap (λ b. course_of (option_or w.fault (error_of_end (cond b out_of_inferences end_of_answers))) (suc n - suc m)) (one_further n m)
+      ∙ ap (course_of (option_or w.fault (error_of_end (cond (nat_lt n m) out_of_inferences end_of_answers)))) (one_less n m)
+      ∙ ap (λ k. course_of (option_or w.fault (error_of_end (cond (nat_lt n k) out_of_inferences end_of_answers))) (n - k)) q)
 
   pub one_more : (a : List Tree) (zs : List (List Tree)) (n : ℕ) (before : List (List ℕ)) (bytes : ℕ)
       → lines_told (a ∷ zs) (suc n) before bytes
-      ≡ limited (list_any is_too_large a) (nat_lt most_answer_bytes (bytes + length (answer_line g a))) before bytes
+      ≡ limited (list_any is_too_large a) (nat_lt max_answer_bytes (bytes + length (answer_line g a))) before bytes
       (lines_told zs n (before ++ answer_line g a ∷ []) (bytes + length (answer_line g a)))
   one_more a zs n before bytes =
-      by_tests (list_any is_too_large a) (nat_lt most_answer_bytes (bytes + length (answer_line g a))) (answer_line g a) zs n (length zs) before bytes refl
+      by_tests (list_any is_too_large a) (nat_lt max_answer_bytes (bytes + length (answer_line g a))) (answer_line g a) zs n (length zs) before bytes refl
 
   -- further answers, unless a limit was passed
   abbrev pub then_told : Told → List (List Tree) → Told
@@ -110,12 +115,14 @@ module _ (g : Goal) where
   limited_then false false before bytes t u ys e = e
 
   -- answers and then others
-  pub told-append : (xs ys : List (List Tree)) (n : ℕ) (before : List (List ℕ)) (bytes : ℕ) → lines_told (xs ++ ys) n before bytes ≡ then_told (lines_told xs n before bytes) ys
+  pub told-append : (xs ys : List (List Tree)) (n : ℕ) (before : List (List ℕ)) (bytes : ℕ) →
+      lines_told (xs ++ ys) n before bytes ≡ then_told (lines_told xs n before bytes) ys
   told-append [] ys n before bytes = ap (λ t. then_told t ys) (sym (nothing_told n before bytes))
   told-append (a ∷ xs) ys zero before bytes = no_inference a (xs ++ ys) before bytes ∙ ap (λ t. then_told t ys) (sym (no_inference a xs before bytes))
   told-append (a ∷ xs) ys (suc n) before bytes =
       let l = answer_line g a in
       one_more a (xs ++ ys) n before bytes
-      ∙ limited_then (list_any is_too_large a) (nat_lt most_answer_bytes (bytes + length l)) before bytes _ (lines_told xs n (before ++ l ∷ []) (bytes + length l)) ys
+      ∙ limited_then (list_any is_too_large a) (nat_lt max_answer_bytes (bytes + length l)) before bytes _
+      (lines_told xs n (before ++ l ∷ []) (bytes + length l)) ys
       (told-append xs ys n (before ++ l ∷ []) (bytes + length l))
       ∙ ap (λ t. then_told t ys) (sym (one_more a xs n before bytes))

@@ -164,7 +164,8 @@ module _ (keys : List ℕ) where
     told_same k t ts p q e = equal_is_same t k (p t (inr (inl refl))) (p k (inl refl)) (is_equal (by_keys t k) (sym (q t k (inr (inl refl)) (inl refl)) ∙ e))
 
     has_dropped_here : (k t v : Tree) (ts : List Tree) → AllValid (k ∷ t ∷ ts) → TellsSame (k ∷ t ∷ ts) → (Has v (k ∷ ts) → Has v (dedup_from same k ts))
-        → (Has v (t ∷ ts) → Has v (dedup_from same t ts)) → Has v (k ∷ t ∷ ts) → (b : Bool) → same t k ≡ b → Has v (cond b (dedup_from same k ts) (k ∷ dedup_from same t ts))
+        → (Has v (t ∷ ts) → Has v (dedup_from same t ts)) → Has v (k ∷ t ∷ ts) → (b : Bool) → same t k ≡ b →
+        Has v (cond b (dedup_from same k ts) (k ∷ dedup_from same t ts))
     has_dropped_here k t v ts p q further other h true e =
         further (elim h [ inl i ↦ inl i | inr i ↦ elim i [ inl j ↦ inl (j ∙ told_same k t ts p q e) | inr j ↦ inr j ] ])
     has_dropped_here k t v ts p q further other h false e = elim h [ inl i ↦ inl i | inr i ↦ inr (other i) ]
@@ -177,7 +178,8 @@ module _ (keys : List ℕ) where
 
     is_less : (k t : Tree) → (o p : Ordering) → by_keys k t ≡ o → is_gt o ≡ false → by_keys t k ≡ p → is_eq p ≡ false → by_keys k t ≡ Less
     is_less k t Less p e g f h = e
-    is_less k t Equal p e g f h = let back : p ≡ Equal = sym f ∙ total.antisymm t k ∙ ap ordering_reverse e in let clash : true ≡ false = sym (ap is_eq back) ∙ h in cc
+    is_less k t Equal p e g f h =
+        let back : p ≡ Equal = sym f ∙ total.antisymm t k ∙ ap ordering_reverse e in let clash : true ≡ false = sym (ap is_eq back) ∙ h in cc
     is_less k t Greater p e g f h = cc
 
     then_less : (k t v : Tree) (o : Ordering) → IsValid t → IsValid v → by_keys k t ≡ Less → by_keys t v ≡ o → is_gt o ≡ false → by_keys k v ≡ Less

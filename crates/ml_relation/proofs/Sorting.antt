@@ -1,5 +1,6 @@
 -- The order in which the code sorts tuples, and what it leaves of them.
-use Rattle.std.proofs.Common.{◌≡◌, ◌≢◌, ℕ, suc, ◌+◌, ◌==◌, ◌&&◌, nat_eq, Bool, true, false, inl, inr, List, [], ◌∷◌, get_or, refl, sym, ap, ◌∙◌, subst, cond, arith, if◌then◌else◌}
+use Rattle.std.proofs.Common.{◌≡◌, ◌≢◌, ℕ, suc, ◌+◌, ◌==◌, ◌&&◌, nat_eq, Bool, true, false, inl, inr, List, [], ◌∷◌, get_or, refl, sym, ap, ◌∙◌, subst, cond}
+use Rattle.std.proofs.Common.{arith, if◌then◌else◌}
 use Rattle.std.specs.List.{All, dedup, dedup_from}
 use Rattle.std.specs.List.Sorted.{IsPermutation, IsSortedBy}
 use Rattle.std.specs.declared.cmp.Ordering.{Ordering}
@@ -126,7 +127,8 @@ module _ (keys : List ℕ) (n : ℕ) where
   trees_from k [] = refl
   trees_from k (x ∷ xs) = by_test (trees_from k xs) (trees_from x xs) (is_repeat x k)
     where
-      by_test : trees (dedup_from is_repeat k xs) ≡ dedup_from same_place (tree_of k) (trees xs) → trees (dedup_from is_repeat x xs) ≡ dedup_from same_place (tree_of x) (trees xs)
+      by_test : trees (dedup_from is_repeat k xs) ≡ dedup_from same_place (tree_of k) (trees xs) →
+          trees (dedup_from is_repeat x xs) ≡ dedup_from same_place (tree_of x) (trees xs)
           → (b : Bool) → trees (cond b (dedup_from is_repeat k xs) (k ∷ dedup_from is_repeat x xs))
           ≡ cond b (dedup_from same_place (tree_of k) (trees xs)) (tree_of k ∷ dedup_from same_place (tree_of x) (trees xs))
       by_test further other true = further
@@ -144,11 +146,13 @@ module _ (keys : List ℕ) (n : ℕ) where
   of_tuples (x ∷ xs) p = All-cons HasArity x xs (All-head HasSize (tree_of x) (trees xs) p) (of_tuples xs (All-tail HasSize (tree_of x) (trees xs) p))
 
   -- what a sort and a dropping of repeats leave
-  pub left_is : (xs ys zs : List Tuple) → All HasSize (trees xs) → IsPermutation xs ys → IsSortedBy goes_before ys → zs ≡ dedup is_repeat ys → trees zs ≡ in_key_order keys (trees xs)
+  pub left_is : (xs ys zs : List Tuple) → All HasSize (trees xs) → IsPermutation xs ys → IsSortedBy goes_before ys → zs ≡ dedup is_repeat ys →
+      trees zs ≡ in_key_order keys (trees xs)
   left_is xs ys zs p moved sorted left =
       let q : All HasArity ys = All-permutation HasArity xs ys moved (of_tuples xs p) in
       let trees_moved = IsPermutation-map tree_of xs ys moved in
       ap trees left
       ∙ trees_dropped ys
-      ∙ dropped_is keys same_place (trees xs) (trees ys) (sorted_trees ys q sorted) (all_valid xs) (has_moved (trees xs) (trees ys) trees_moved) (has_moved_back (trees xs) (trees ys) trees_moved)
+      ∙ dropped_is keys same_place (trees xs) (trees ys) (sorted_trees ys q sorted) (all_valid xs) (has_moved (trees xs) (trees ys) trees_moved)
+      (has_moved_back (trees xs) (trees ys) trees_moved)
       (λ t u h k. ap is_eq (by_keys t u (sizes ys q t h) (sizes ys q u k)))

@@ -7,7 +7,7 @@ use Rattle.ml_term.specs.Tree.{Tree}
 use Rattle.ml_term.specs.Unify.{Map, unifier}
 use Rattle.ml_search.specs.Program.{Goal}
 use Rattle.ml_search.specs.Errors.{is_too_large}
-use Rattle.ml_search.specs.Limits.{most_answer_bytes}
+use Rattle.ml_search.specs.Limits.{max_answer_bytes}
 use Rattle.ml_search.specs.Session.{answer_line}
 use Rattle.ml_relation.specs.declared.tuple.Tuple.{Tuple}
 use Rattle.ml_relation.specs.Matching.{Values}
@@ -21,11 +21,13 @@ use Rattle.ml_relation.proofs.OneAnswerMore.{lines_told, gone, stopped, limited,
 
 module _ (g : Goal) where
   -- a tuple that isn't met
-  pub missed : (u : Tree) (n : ℕ) (before : List (List ℕ)) (bytes : ℕ) → unifier g.term u ≡ None → lines_told g (answers g (u ∷ [])) n before bytes ≡ gone g n before bytes
+  pub missed : (u : Tree) (n : ℕ) (before : List (List ℕ)) (bytes : ℕ) → unifier g.term u ≡ None →
+      lines_told g (answers g (u ∷ [])) n before bytes ≡ gone g n before bytes
   missed u n before bytes e = ap (λ zs. lines_told g zs n before bytes) (answers_none g u e) ∙ nothing_told g n before bytes
 
   -- a tuple that is met, without an inference for it
-  pub unable : (u : Tree) (m : Map) (before : List (List ℕ)) (bytes : ℕ) → unifier g.term u ≡ Some m → lines_told g (answers g (u ∷ [])) zero before bytes ≡ stopped g (codes "inferences") before bytes
+  pub unable : (u : Tree) (m : Map) (before : List (List ℕ)) (bytes : ℕ) → unifier g.term u ≡ Some m →
+      lines_told g (answers g (u ∷ [])) zero before bytes ≡ stopped g (codes "inferences") before bytes
   unable u m before bytes e = ap (λ zs. lines_told g zs zero before bytes) (answers_one g u m e) ∙ no_inference g (answer g m) [] before bytes
 
   -- a tuple that is met
@@ -34,9 +36,14 @@ module _ (g : Goal) where
   answered u m vs n before bytes e k =
       let a = answer g m in
       let l = answer_line g a in
-      ap (λ line. limited g (list_any is_too_large (shown_values vs g.names)) (nat_lt most_answer_bytes (bytes + length line)) before bytes (gone g n (before ++ line ∷ []) (bytes + length line))) (line_is g vs m k)
-      ∙ ap (λ ts. limited g (list_any is_too_large ts) (nat_lt most_answer_bytes (bytes + length l)) before bytes (gone g n (before ++ l ∷ []) (bytes + length l))) (shown_are g vs m k)
-      ∙ ap (limited g (list_any is_too_large a) (nat_lt most_answer_bytes (bytes + length l)) before bytes) (sym (nothing_told g n (before ++ l ∷ []) (bytes + length l)))
+      ap
+      (λ line. limited g (list_any is_too_large (shown_values vs g.names)) (nat_lt max_answer_bytes (bytes + length line)) before bytes
+      (gone g n (before ++ line ∷ []) (bytes + length line))) (line_is g vs m k)
+      ∙ ap
+      (λ ts. limited g (list_any is_too_large ts) (nat_lt max_answer_bytes (bytes + length l)) before bytes
+      (gone g n (before ++ l ∷ []) (bytes + length l))) (shown_are g vs m k)
+      ∙ ap (limited g (list_any is_too_large a) (nat_lt max_answer_bytes (bytes + length l)) before bytes)
+      (sym (nothing_told g n (before ++ l ∷ []) (bytes + length l)))
       ∙ sym (one_more g a [] n before bytes)
       ∙ ap (λ zs. lines_told g zs (suc n) before bytes) (sym (answers_one g u m e))
 

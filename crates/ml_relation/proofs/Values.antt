@@ -1,5 +1,6 @@
 -- The values of variables as the code keeps them, and as the definitions see them.
-use Rattle.std.proofs.Common.{◌≡◌, ℕ, zero, suc, ◌+◌, ◌<◌, ◌≤◌, nat_lt, Bool, true, false, ◌⊎◌, inl, inr, List, [], ◌∷◌, length, get_or, Option, Some, None, option_map, refl, sym, ap, ◌∙◌, subst, arith, slice_set, Bor, if◌then◌else◌}
+use Rattle.std.proofs.Common.{◌≡◌, ℕ, zero, suc, ◌+◌, ◌<◌, ◌≤◌, nat_lt, Bool, true, false, ◌⊎◌, inl, inr, List, [], ◌∷◌, length, get_or, Option, Some, None}
+use Rattle.std.proofs.Common.{option_map, refl, sym, ap, ◌∙◌, subst, arith, slice_set, Bor, if◌then◌else◌}
 use Rattle.std.proofs.lemmas.Bool.Decides.{nat_tests}
 use Rattle.ml_term.specs.Seen.{seen}
 use Rattle.ml_term.specs.Tree.{Tree}
@@ -10,7 +11,8 @@ use Rattle.ml_relation.specs.Matching.{Values, value_at, with_value, taken_by, v
 abbrev value_seen : Option (Bor Term) → Option Tree
 value_seen = option_map (λ v. seen v.now)
 
-pub value_there : (vs : List (Option (Bor Term))) (n : ℕ) (d : Option (Bor Term)) → n < length vs → value_at (values_seen vs) n ≡ option_map (λ v. seen v.now) (get_or vs n d)
+pub value_there : (vs : List (Option (Bor Term))) (n : ℕ) (d : Option (Bor Term)) → n < length vs →
+    value_at (values_seen vs) n ≡ option_map (λ v. seen v.now) (get_or vs n d)
 value_there [] n d h = absurd (omega arith)
 value_there (v ∷ vs) zero d h = refl
 value_there (v ∷ vs) (suc n) d h = value_there vs n d (omega arith)
@@ -40,7 +42,8 @@ told_no None answer ws h e = refl
 told_no (Some vs) answer ws h e = let clash : true ≡ false = sym h.0 ∙ e in cc
 
 -- values taken away from the left
-pub unset_more : (vs : List (Option (Bor Term))) (k n : ℕ) → (n < k → value_at (values_seen vs) n ≡ None) → n < k + 1 → value_at (values_seen (slice_set vs k None)) n ≡ None
+pub unset_more : (vs : List (Option (Bor Term))) (k n : ℕ) → (n < k → value_at (values_seen vs) n ≡ None) → n < k + 1 →
+    value_at (values_seen (slice_set vs k None)) n ≡ None
 unset_more [] k n h l = refl
 unset_more (v ∷ vs) zero zero h l = refl
 unset_more (v ∷ vs) zero (suc n) h l = absurd (omega arith)

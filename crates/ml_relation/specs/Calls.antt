@@ -1,14 +1,18 @@
--- Goals that are calls of declared relations, and scripts of such goals. The code looks at one declaration after another.
+-- Goals that are calls of declared relations, and scripts of such goals. The code looks at one
+-- declaration after another.
 use Rattle.std.specs.Prelude.{ℕ, Bool, true, false, ◌&&◌, List, [], unwrap_or, slice_get}
 use Rattle.std.specs.List.{list_all}
 use Rattle.ml_term.specs.Tree.{Tree}
 use Rattle.ml_term.specs.declared.declaration.Decl.{Decl}
-use Rattle.ml_search.specs.Program.{Script, Last, commit, abort, unless, name_of, arity_of, place_of, declaration_of, holds_of, is_relation}
+use Rattle.ml_search.specs.Program.{Script, Last, commit, abort, unless, name_of, arity_of}
+use Rattle.ml_search.specs.Program.{place_of, declaration_of, holds_of, is_relation}
 use Rattle.ml_search.specs.WellFormed.{is_clause_head}
 
--- whether a term is an atom or a compound of a declared relation that is no control construct and no built-in
+-- whether a term is an atom or a compound of a declared relation that is no control construct and
+-- no built-in
 abbrev pub is_call_of_relation : List Decl → Tree → Bool
-is_call_of_relation ds t = is_clause_head t && holds_of is_relation (declaration_of ds (name_of t) (arity_of t))
+is_call_of_relation ds t =
+    is_clause_head t && holds_of is_relation (declaration_of ds (name_of t) (arity_of t))
 
 -- whether a script ends with a commit
 abbrev pub commits : Last → Bool

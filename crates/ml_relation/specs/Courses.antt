@@ -1,10 +1,12 @@
--- What comes of a goal: its lines, and whether the session goes on. The code writes an answer as soon as it is found; here all answers are found before.
+-- What comes of a goal: its lines, and whether the session goes on. The code writes an answer as
+-- soon as it is found; here all answers are found before.
 use Rattle.std.specs.Prelude.{ℕ, List, [], ◌∷◌, ◌++◌, length, Option, Some, None, codes}
 use Rattle.std.specs.Option.{option_or}
 use Rattle.ml_term.specs.Tree.{Tree}
 use Rattle.ml_search.specs.Program.{Goal}
 use Rattle.ml_search.specs.Errors.{resource_error}
-use Rattle.ml_search.specs.Session.{Written, written, raised_by, goal_line, count_line, error_line}
+use Rattle.ml_search.specs.Session.{AnswerLines, answer_lines, error_of_end, goal_line, count_line}
+use Rattle.ml_search.specs.Session.{error_line}
 use Rattle.ml_writer.specs.Output.{Output}
 use Rattle.ml_relation.specs.declared.limit.Limit.{Limit}
 use Rattle.ml_relation.specs.declared.limit.Limit.TheVariants.{Inferences, TermNodes, AnswerBytes}
@@ -31,8 +33,12 @@ course_of (Some t) left = stops t
 -- the lines of the answers that a goal finds, behind others
 abbrev pub told : Goal → Found → List (List ℕ) → ℕ → Told
 told g f before bytes =
-    let w : Written = written g f.found bytes in
-    record { lines = before ++ w.lines; bytes = w.bytes; course = course_of (option_or w.fault (raised_by f.end)) f.left }
+    let w : AnswerLines = answer_lines g f.found bytes in
+    record {
+      lines = before ++ w.lines;
+      bytes = w.bytes;
+      course = course_of (option_or w.fault (error_of_end f.end)) f.left;
+    }
 
 -- the last line of a goal: how many answers it has, or the term that it raised
 abbrev pub last_line : Found → Course → List ℕ

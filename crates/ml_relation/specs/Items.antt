@@ -1,4 +1,5 @@
--- The items of which relations are made, and what the code does with one after another of them, and with one list after another.
+-- The items of which relations are made, and what the code does with one after another of them, and
+-- with one list after another.
 use Rattle.std.specs.Prelude.{◌≡◌, ℕ, zero, suc, ◌+◌, ◌++◌, List, [], ◌∷◌}
 use Rattle.std.specs.List.{All}
 use Rattle.ml_term.specs.Tree.{Tree}

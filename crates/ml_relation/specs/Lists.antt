@@ -1,4 +1,5 @@
--- The terms of relations. The code keeps for each tuple that it is a term of the language without variables.
+-- The terms of relations. The code keeps for each tuple that it is a term of the language without
+-- variables.
 use Rattle.std.specs.Prelude.{List, map, Vec}
 use Rattle.std.specs.declared.alloc.Global.{Global}
 use Rattle.ml_term.specs.Seen.{seen}

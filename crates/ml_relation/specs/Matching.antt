@@ -1,10 +1,13 @@
--- How a goal's term meets a ground term, from the left, with the values that its variables have so far. The search unifies the two; here no tree is
--- built, since what stands on the other side has no variable.
-use Rattle.std.specs.Prelude.{◌≡◌, ℕ, zero, suc, Bool, true, false, IsTrue, List, [], ◌∷◌, map, Option, Some, None, option_map, option_and_then, if◌then◌else◌}
+-- How a goal's term meets a ground term, from the left, with the values that its variables have so
+-- far. The search unifies the two; here no tree is built, since what stands on the other side has
+-- no variable.
+use Rattle.std.specs.Prelude.{◌≡◌, ℕ, zero, suc, Bool, true, false, IsTrue, List, [], ◌∷◌, map}
+use Rattle.std.specs.Prelude.{Option, Some, None, option_map, option_and_then, if◌then◌else◌}
 use Rattle.std.specs.Ordering.{int_eq}
 use Rattle.std.specs.Borrow.{Bor}
 use Rattle.std.specs.Str.{bytes_eq}
-use Rattle.ml_term.specs.Tree.{Tree, Trees, variable, integer, atom, compound, no_trees, tree, occurs}
+use Rattle.ml_term.specs.Tree.{Tree, Trees, variable, integer, atom, compound, no_trees, tree}
+use Rattle.ml_term.specs.Tree.{occurs}
 use Rattle.ml_term.specs.Unify.{Map, value_of, unifier}
 use Rattle.ml_term.specs.Seen.{seen}
 use Rattle.ml_term.specs.declared.term.Term.{Term}
@@ -35,6 +38,7 @@ abbrev pub taken_by : Option Tree → ℕ → Tree → Values → Option Values
 taken_by None n u vs = Some (with_value vs n u)
 taken_by (Some v) n u vs = if is_same v u then Some vs else None
 
+-- a variable takes a term by the value that it has so far
 abbrev pub taken : ℕ → Tree → Values → Option Values
 taken n u vs = taken_by (value_at vs n) n u vs
 
@@ -66,7 +70,8 @@ abbrev pub HasValue : Option Tree → Type 0
 HasValue None = ⊥
 HasValue (Some v) = Unit {0}
 
--- a term and a ground one have this unifier, and the values are what it has for the term's variables
+-- a term and a ground one have this unifier, and the values are what it has for the term's
+-- variables
 pub record Meets (t u : Tree) (vs : Values) : Type 0 where
   pub unified : Map
   pub unifies : unifier t u ≡ Some unified

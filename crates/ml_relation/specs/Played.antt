@@ -15,7 +15,8 @@ pub record Played : Type 0 where
   pub ending : Ending
 
 module _ (ds : List Decl) (lists : List (List Tree)) where
-  -- the goals from number j on with so many inferences left, behind some lines with so many answer bytes
+  -- the goals from number j on with so many inferences left, behind some lines with so many answer
+  -- bytes
   abbrev pub played : List Goal → ℕ → ℕ → List (List ℕ) → ℕ → Played
   played [] j left before bytes = record { lines = before; ending = Committed }
   played (g ∷ gs) j left before bytes =

@@ -12,7 +12,7 @@ use crate::limit::is_too_large;
 use ml_term::{Name, Term};
 use std::alloc::{AllocError, Global};
 
-/// Whether a variable is shown: it is unless its name begins with `_`.
+// Whether a variable is shown: it is unless its name begins with `_`.
 fn is_shown(name: &[u8]) -> bool
     ensures { result ≡ is_shown (name.now, 0) }
 {
@@ -22,7 +22,7 @@ fn is_shown(name: &[u8]) -> bool
     }
 }
 
-/// The value of a variable.
+// The value of a variable.
 fn value<'t>(values: &[Option<&'t Term>], number: u32) -> &'t Term
     requires { HasValue (value_at (values_seen values.now) number) }
     ensures { value_at (values_seen values.now) number ≡ Some (seen result.now) }
@@ -33,7 +33,7 @@ fn value<'t>(values: &[Option<&'t Term>], number: u32) -> &'t Term
     }
 }
 
-/// Whether a variable is shown whose value has too many nodes to be told.
+// Whether a variable is shown whose value has too many nodes to be told.
 fn is_over_at(name: &[u8], value: &Term) -> bool
     ensures { result ≡ (is_shown (name.now, 0) && is_too_large (seen value.now)) }
 {
@@ -53,14 +53,17 @@ pub fn is_over(names: &[(Name, u32)], values: &[Option<&Term>]) -> bool
     false
 }
 
-/// Puts a variable with its value behind others, if it is shown.
+// Puts a variable with its value behind others, if it is shown.
 fn push_shown(
     alloc: Global,
     name: &Name,
     value: &Term,
     bindings: &mut Vec<(Name, Term)>,
 ) -> Result<(), AllocError>
-    ensures { OnOk result (bindings_seen bindings.new.items ≡ bindings_seen bindings.old.items ++ cond (is_shown (name.now, 0)) ((name.now, seen value.now) ∷ []) []) }
+    ensures { OnOk result
+        (bindings_seen bindings.new.items
+        ≡ bindings_seen bindings.old.items
+        ++ cond (is_shown (name.now, 0)) ((name.now, seen value.now) ∷ []) []) }
 {
     if is_shown(name.as_slice()) {
         let term = value.copy_of(alloc)?;
@@ -76,7 +79,9 @@ pub fn bindings(
     values: &[Option<&Term>],
 ) -> Result<Vec<(Name, Term)>, AllocError>
     requires { All (λ e. HasValue (value_at (values_seen values.now) e.1)) names.now }
-    ensures { IfOk result (λ bindings. bindings_seen bindings.items ≡ shown_bindings (values_seen values.now) names.now) }
+    ensures { IfOk result
+        (λ bindings. bindings_seen bindings.items
+        ≡ shown_bindings (values_seen values.now) names.now) }
 {
     let mut bindings = Vec::new(alloc);
     for (name, number) in names {

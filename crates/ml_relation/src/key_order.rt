@@ -21,10 +21,11 @@ pub fn in_key_order(decl: &Decl, tuples: Vec<Tuple>) -> Vec<Tuple>
     sorted
 }
 
-/// The order of two tuples with the declared number of arguments is that of their keys.
+// The order of two tuples with the declared number of arguments is that of their keys.
 #[tactic(auto, unfolding(crate::specs::KeyOrder::place_cmp))]
 fn order(decl: &Decl, a: &Tuple, b: &Tuple) -> Ordering
-    ensures { result ≡ place_cmp decl.now.keys decl.now.pred.arity (seen a.now.term) (seen b.now.term) }
+    ensures { result
+        ≡ place_cmp decl.now.keys decl.now.pred.arity (seen a.now.term) (seen b.now.term) }
 {
     let wanted = usize::from(decl.pred.arity);
     if a.term.arity() == wanted && b.term.arity() == wanted {

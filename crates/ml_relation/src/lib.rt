@@ -1,8 +1,10 @@
-//! Sessions whose goals are calls of declared relations.
-//! It stands on the terms of ml_term, on ml_search for what a session means, and on ml_writer for its lines. The layer above may use `Relations`,
-//! `is_of_relations`, `run_session` and the laws: whatever else a program has, such sessions are its own, and each leaves its lists as they are.
-//! What carries it: tuples have no variable, so a goal's term is matched with a tuple without any tree built, and what a variable stands for is a
-//! part of the tuple.
+//! Takes the machine's place until it is built, and goes when it comes: sessions whose goals are
+//! calls of relations. It stands on the terms of ml_term, on ml_search for what a session means,
+//! and on ml_writer for its lines. The layer above may use `Relations`, `is_of_relations`,
+//! `run_session` and the laws: whatever else a program has, such sessions are its own, and each
+//! leaves its lists as they are. What carries it: tuples have no variable, so a goal's term is
+//! matched with a tuple without any tree built, and what a variable stands for is a part of the
+//! tuple.
 #![tactic(auto)]
 
 mod answer;
@@ -12,9 +14,9 @@ mod key_order;
 pub mod laws;
 mod limit;
 mod matching;
-mod play;
 mod relations;
 mod run;
+mod run_goal;
 mod tell;
 mod tuple;
 

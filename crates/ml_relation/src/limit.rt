@@ -5,7 +5,7 @@ ghost use Rattle.ml_search.specs.Errors.{is_too_large};
 ghost use Rattle.ml_term.specs.Names.{is_name};
 ghost use Rattle.ml_term.specs.Seen.{seen};
 
-use ml_term::{Args, MOST_NODES, Name, Term, nodes_up_to};
+use ml_term::{Args, MAX_TERM_NODES, Name, Term, nodes_up_to};
 use std::alloc::{AllocError, Global};
 
 /// A limit that a session may pass.
@@ -20,7 +20,7 @@ pub enum Limit {
 }
 
 impl Limit {
-    /// What the raised term tells of the limit.
+    // What the raised term tells of the limit.
     fn name(self) -> &'static [u8]
         ensures same { result.now ≡ limit_name self }
         ensures valid { IsTrue (is_name result.now) }
@@ -45,5 +45,5 @@ impl Limit {
 pub fn is_too_large(t: &Term) -> bool
     ensures { result ≡ is_too_large (seen t.now) }
 {
-    nodes_up_to(t, MOST_NODES) > MOST_NODES
+    nodes_up_to(t, MAX_TERM_NODES) > MAX_TERM_NODES
 }

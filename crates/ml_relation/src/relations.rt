@@ -22,7 +22,8 @@ pub struct Relations {
 }
 
 impl Relations {
-    /// The relations of declarations that have these items, each with its declaration's place, from 0.
+    /// The relations of declarations that have these items, each with its declaration's place, from
+    /// 0.
     pub fn from_items(
         alloc: Global,
         decls: &Decls,
@@ -30,14 +31,15 @@ impl Relations {
     ) -> Result<Relations, AllocError>
         requires relations { IsTrue (list_all is_relation decls.now) }
         requires items { IsTrue (are_items decls.now (items_seen items.items)) }
-        ensures { IfOk result (λ relations. lists_of relations ≡ first_lists decls.now (items_seen items.items)) }
+        ensures { IfOk result
+            (λ relations. lists_of relations ≡ first_lists decls.now (items_seen items.items)) }
     {
         let unsorted = sorted_out(alloc, decls, items)?;
         let lists = put_in_order(alloc, decls, unsorted)?;
         Ok(Relations { lists })
     }
 
-    /// The tuples of the declaration at a place, and none where there is no such place.
+    // The tuples of the declaration at a place, and none where there is no such place.
     pub(crate) fn at(&self, place: usize) -> &[Tuple]
         ensures { trees result.now ≡ terms_at (lists_of self.now) place }
     {
@@ -49,7 +51,7 @@ impl Relations {
     }
 }
 
-/// So many lists without a tuple.
+// So many lists without a tuple.
 fn no_tuples(alloc: Global, count: usize) -> Result<Vec<Vec<Tuple>>, AllocError>
     ensures { IfOk result (λ lists. all_trees lists.items ≡ replicate count []) }
 {
@@ -60,16 +62,17 @@ fn no_tuples(alloc: Global, count: usize) -> Result<Vec<Vec<Tuple>>, AllocError>
     Ok(lists)
 }
 
-/// Puts a tuple at the end of the list at a place.
+// Puts a tuple at the end of the list at a place.
 fn put(lists: &mut [Vec<Tuple>], place: usize, tuple: Tuple) -> Result<(), AllocError>
     requires { place < length lists.old }
-    ensures { OnOk result (all_trees lists.new ≡ with_term (all_trees lists.old) place (seen tuple.term)) }
+    ensures { OnOk result
+        (all_trees lists.new ≡ with_term (all_trees lists.old) place (seen tuple.term)) }
 {
     lists[place].push(tuple)?;
     Ok(())
 }
 
-/// A list for each declaration, with its tuples in the order of the items.
+// A list for each declaration, with its tuples in the order of the items.
 fn sorted_out(
     alloc: Global,
     decls: &Decls,
@@ -77,7 +80,8 @@ fn sorted_out(
 ) -> Result<Vec<Vec<Tuple>>, AllocError>
     requires relations { IsTrue (list_all is_relation decls.now) }
     requires items { IsTrue (are_items decls.now (items_seen items.items)) }
-    ensures { IfOk result (λ lists. all_trees lists.items ≡ gathered 0 decls.now (items_seen items.items)) }
+    ensures { IfOk result
+        (λ lists. all_trees lists.items ≡ gathered 0 decls.now (items_seen items.items)) }
 {
     let mut lists = no_tuples(alloc, decls.len())?;
     for (place, term) in items {
@@ -86,14 +90,15 @@ fn sorted_out(
     Ok(lists)
 }
 
-/// The lists with their tuples in the order of their keys, each once.
+// The lists with their tuples in the order of their keys, each once.
 fn put_in_order(
     alloc: Global,
     decls: &Decls,
     lists: Vec<Vec<Tuple>>,
 ) -> Result<Vec<Vec<Tuple>>, AllocError>
     requires { AreSized decls.now (all_trees lists.items) }
-    ensures { IfOk result (λ sorted. all_trees sorted.items ≡ in_order decls.now (all_trees lists.items)) }
+    ensures { IfOk result
+        (λ sorted. all_trees sorted.items ≡ in_order decls.now (all_trees lists.items)) }
 {
     let mut sorted = Vec::new(alloc);
     for tuples in lists {

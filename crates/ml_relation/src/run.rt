@@ -4,7 +4,7 @@ ghost use Rattle.ml_relation.specs.Calls.{is_of_relations};
 ghost use Rattle.ml_relation.specs.Lists.{lists_of};
 ghost use Rattle.ml_relation.specs.Played.{played};
 ghost use Rattle.ml_relation.specs.Running.{IsRun, Plays};
-ghost use Rattle.ml_search.specs.Db.{loaded};
+ghost use Rattle.ml_search.specs.Db.{load_lists};
 ghost use Rattle.ml_search.specs.GoalSeen.{goals_seen};
 ghost use Rattle.ml_search.specs.Program.{Program};
 ghost use Rattle.ml_search.specs.ProgramSeen.{script_seen};
@@ -12,9 +12,9 @@ ghost use Rattle.ml_search.specs.Session.{session};
 
 use crate::calls::place_called;
 use crate::course::Course;
-use crate::play::play;
 use crate::relations::Relations;
-use ml_search::{Decls, Ending, Goal, MOST_GOALS, Script};
+use crate::run_goal::run_goal;
+use ml_search::{Decls, Ending, Goal, MAX_GOALS, Script};
 use ml_writer::Lines;
 use std::alloc::{AllocError, Global};
 
@@ -25,7 +25,7 @@ pub struct Ran {
     pub ending: Ending,
 }
 
-/// Runs goals one after another, the first of them with so many inferences.
+// Runs goals one after another, the first of them with so many inferences.
 fn run_goals(
     alloc: Global,
     decls: &Decls,
@@ -33,8 +33,11 @@ fn run_goals(
     goals: &[Goal],
     budget: u32,
 ) -> Result<Ran, AllocError>
-    requires { length goals.now ≤ MOST_GOALS }
-    ensures { IfOk result (λ ran. Plays (played decls.now (lists_of relations.now) (goals_seen goals.now) 1 budget [] 0) ran.lines ran.ending) }
+    requires { length goals.now ≤ MAX_GOALS }
+    ensures { IfOk result
+        (λ ran. Plays
+        (played decls.now (lists_of relations.now) (goals_seen goals.now) 1 budget [] 0) ran.lines
+        ran.ending) }
 {
     let mut lines = Lines::new(alloc);
     let mut left = budget;
@@ -42,7 +45,7 @@ fn run_goals(
     for goal in goals {
         j += 1;
         let tuples = relations.at(place_called(decls, &goal.term));
-        match play(alloc, goal, tuples, j, left, &mut lines)? {
+        match run_goal(alloc, goal, tuples, j, left, &mut lines)? {
             Course::Goes(rest) => left = rest,
             Course::Stops(_) => {
                 return Ok(Ran {
@@ -58,7 +61,8 @@ fn run_goals(
     })
 }
 
-/// Runs a session whose goals are calls of relations. Whatever clauses a program with these declarations has, it is the program's session.
+/// Runs a session whose goals are calls of relations. Whatever clauses a program with these
+/// declarations has, it is the program's session.
 pub fn run_session(
     alloc: Global,
     decls: &Decls,
@@ -67,7 +71,9 @@ pub fn run_session(
 ) -> Result<Ran, AllocError>
     requires { IsTrue (is_of_relations decls.now (script_seen script.now)) }
     ensures { IfOk result (λ ran. (program : Program) → program.decls ≡ decls.now →
-        IsRun (session program (script_seen script.now) (loaded (lists_of relations.now))) ran.lines ran.ending) }
+        IsRun
+        (session program (script_seen script.now) (load_lists (lists_of relations.now))) ran.lines
+        ran.ending) }
 {
     run_goals(
         alloc,

@@ -21,9 +21,9 @@ use ml_term::{Name, Term};
 use ml_writer::{LineStop, Lines};
 use std::alloc::{AllocError, Global};
 
-/// A number above those of a term's variables.
+// A number above those of a term's variables.
 #[cycle(room)]
-#[tactic(auto, using(ml_term::proofs::Sizes::nodes_above_zero))]
+#[tactic(auto, using(ml_term::proofs::TermSizes::nodes_above_zero))]
 fn room_of(t: &Term) -> usize
     ensures below { IsTrue (is_below result (seen t.now)) }
     ensures few { result ≤ 4294967296 }
@@ -35,9 +35,9 @@ fn room_of(t: &Term) -> usize
     }
 }
 
-/// The same for some terms together.
+// The same for some terms together.
 #[cycle(room)]
-#[tactic(auto, using(ml_term::proofs::Sizes::nodes_above_zero, crate::proofs::Room::room_for_both))]
+#[tactic(auto, using(ml_term::proofs::TermSizes::nodes_above_zero, crate::proofs::Room::room_for_both))]
 fn room_of_all(ts: &[Term]) -> usize
     ensures below { IsTrue (are_below result (trees_of (all_seen ts.now))) }
     ensures few { result ≤ 4294967296 }
@@ -48,7 +48,7 @@ fn room_of_all(ts: &[Term]) -> usize
     }
 }
 
-/// Writes the line of an answer, and says how many inferences are left then.
+// Writes the line of an answer, and says how many inferences are left then.
 fn tell_answer(
     alloc: Global,
     names: &[(Name, u32)],
@@ -58,7 +58,9 @@ fn tell_answer(
 ) -> Result<Course, AllocError>
     requires known { All (λ e. HasValue (value_at (values_seen values.now) e.1)) names.now }
     requires finished { lines.old.unfinished ≡ [] }
-    ensures told { IfOk result (λ course. told_by lines.new course ≡ one_told (values_seen values.now) names.now left lines.old.lines lines.old.answer_bytes) }
+    ensures told { IfOk result
+        (λ course. told_by lines.new course
+        ≡ one_told (values_seen values.now) names.now left lines.old.lines lines.old.answer_bytes) }
     ensures finished { OnOk result (lines.new.unfinished ≡ []) }
     ensures within { IfOk result (λ course. IsWithin left course) }
 {
@@ -73,7 +75,8 @@ fn tell_answer(
     }
 }
 
-/// Writes the line of the answer that a tuple gives, if it gives one and there is an inference for it.
+// Writes the line of the answer that a tuple gives, if it gives one and there is an inference for
+// it.
 fn tell_one<'t>(
     alloc: Global,
     goal: &Goal,
@@ -84,7 +87,11 @@ fn tell_one<'t>(
 ) -> Result<Course, AllocError>
     requires room { IsTrue (is_below (length values.old) (seen goal.now.term)) }
     requires finished { lines.old.unfinished ≡ [] }
-    ensures told { IfOk result (λ course. told_by lines.new course ≡ told (goal_seen goal.now) (within (answers (goal_seen goal.now) (seen tuple.now.term ∷ [])) left) lines.old.lines lines.old.answer_bytes) }
+    ensures told { IfOk result
+        (λ course. told_by lines.new course
+        ≡ told (goal_seen goal.now)
+        (within (answers (goal_seen goal.now) (seen tuple.now.term ∷ [])) left) lines.old.lines
+        lines.old.answer_bytes) }
     ensures finished { OnOk result (lines.new.unfinished ≡ []) }
     ensures within { IfOk result (λ course. IsWithin left course) }
 {
@@ -97,7 +104,7 @@ fn tell_one<'t>(
     tell_answer(alloc, goal.names.as_slice(), values, left - 1, lines)
 }
 
-/// Writes the lines of the answers that tuples give, as long as there are inferences for them.
+// Writes the lines of the answers that tuples give, as long as there are inferences for them.
 fn tell_all(
     alloc: Global,
     goal: &Goal,
@@ -106,7 +113,11 @@ fn tell_all(
     lines: &mut Lines,
 ) -> Result<Course, AllocError>
     requires finished { lines.old.unfinished ≡ [] }
-    ensures told { IfOk result (λ course. told_by lines.new course ≡ told (goal_seen goal.now) (within (answers (goal_seen goal.now) (trees tuples.now)) left) lines.old.lines lines.old.answer_bytes) }
+    ensures told { IfOk result
+        (λ course. told_by lines.new course
+        ≡ told (goal_seen goal.now)
+        (within (answers (goal_seen goal.now) (trees tuples.now)) left) lines.old.lines
+        lines.old.answer_bytes) }
     ensures finished { OnOk result (lines.new.unfinished ≡ []) }
     ensures within { IfOk result (λ course. IsWithin left course) }
 {
@@ -121,7 +132,8 @@ fn tell_all(
     Ok(Course::Goes(rest))
 }
 
-/// Writes the lines of the answers of a call over the tuples of its relation. The call itself uses an inference, and each answer one more.
+/// Writes the lines of the answers of a call over the tuples of its relation. The call itself uses
+/// an inference, and each answer one more.
 pub fn tell_call(
     alloc: Global,
     goal: &Goal,
@@ -130,7 +142,11 @@ pub fn tell_call(
     lines: &mut Lines,
 ) -> Result<Course, AllocError>
     requires finished { lines.old.unfinished ≡ [] }
-    ensures told { IfOk result (λ course. told_by lines.new course ≡ told (goal_seen goal.now) (found_with (goal_seen goal.now) (trees tuples.now) left) lines.old.lines lines.old.answer_bytes) }
+    ensures told { IfOk result
+        (λ course. told_by lines.new course
+        ≡ told (goal_seen goal.now)
+        (found_with (goal_seen goal.now) (trees tuples.now) left) lines.old.lines
+        lines.old.answer_bytes) }
     ensures finished { OnOk result (lines.new.unfinished ≡ []) }
     ensures below { IfOk result (λ course. IsBelow left course) }
 {

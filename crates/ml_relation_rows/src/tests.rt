@@ -8,7 +8,7 @@ use std::alloc::{AllocError, Global};
 use std::process::Abort;
 use std::test::Fail;
 
-/// How a session ends: it commits, or the goal with this number raises a term.
+// How a session ends: it commits, or the goal with this number raises a term.
 #[derive(Clone, Copy, Debug, PartialEq, Eq)]
 enum End {
     Committed,
@@ -43,7 +43,7 @@ fn script_of(rt: &impl Abort, alloc: Global, text: &[u8]) -> Result<Script, Allo
     }
 }
 
-/// The session of a script over the relations of rules.
+// The session of a script over the relations of rules.
 fn run(rt: &impl Abort, alloc: Global, rules: &[u8], script: &[u8]) -> Result<Ran, AllocError> {
     let Rules { program, items } = rules_of(rt, alloc, rules)?;
     assert!(rt; are_relations(&program.decls));
@@ -70,7 +70,8 @@ fn check(
 const P: &[u8] = b":- relation(p/1). p(2). p(1).";
 
 const Q: &[u8] = b":- relation(p/1). :- relation(q/2). :- relation(r/3).
-q(a,a). q(b,a). p(7). q([1,2],f(3)). r(x,y,z). q(f(a,b),b). q(b,a). r('A b',-5,[]). p(it). p(7). r(x,y,g([x|y],{})).";
+q(a,a). q(b,a). p(7). q([1,2],f(3)). r(x,y,z). q(f(a,b),b). q(b,a).
+r('A b',-5,[]). p(it). p(7). r(x,y,g([x|y],{})).";
 
 #[test]
 fn a_budget_is_spent_by_calls_and_by_tuples(rt: HostRuntime) -> Result<(), Fail> {
@@ -177,7 +178,7 @@ fn tuples_stand_in_the_order_of_their_keys(rt: HostRuntime) -> Result<(), Fail> 
     Ok(())
 }
 
-/// `?- p([0,..,0]).` with so many zeros.
+// `?- p([0,..,0]).` with so many zeros.
 fn goal_with_zeros(alloc: Global, zeros: usize) -> Result<String, AllocError> {
     let mut text = String::from_str(alloc, "?- p([0")?;
     for _ in 1..zeros {
@@ -196,7 +197,7 @@ fn the_largest_goal_of_a_text_is_called(rt: HostRuntime) -> Result<(), Fail> {
     Ok(())
 }
 
-/// Thirty facts, each with a list of 15 atoms of 250 letters.
+// Thirty facts, each with a list of 15 atoms of 250 letters.
 fn long_rules(alloc: Global) -> Result<String, AllocError> {
     let mut text = String::from_str(alloc, ":- relation(p/2).\n")?;
     for n in 0u32..30 {
@@ -278,7 +279,7 @@ fn relations_may_be_shared_between_threads(rt: HostRuntime) -> Result<(), Fail> 
     Ok(())
 }
 
-/// `p(50000).` and so on down to `p(1).`
+// `p(50000).` and so on down to `p(1).`
 fn falling_rules(alloc: Global) -> Result<String, AllocError> {
     let mut text = String::from_str(alloc, ":- relation(p/1).\n")?;
     for n in 0u32..50000 {

@@ -3,19 +3,17 @@ use Rattle.std.specs.Prelude.{◌≡◌, ℕ, ◌≤◌, Bool, true, false, ◌&
 use Rattle.std.specs.List.{list_all}
 use Rattle.std.specs.Str.{bytes_eq}
 use Rattle.std.proofs.Common.{inl, inr, refl, sym, arith, subst, eqb-true}
-use Rattle.ml_token.specs.declared.limits.TheConstants.{LONGEST_NAME}
+use Rattle.ml_token.specs.Limits.{max_name_bytes}
 use Rattle.ml_token.specs.declared.tokens.TokenKind.TheVariants.{Name}
-use Rattle.ml_token.specs.Bytes.{is_one_of, is_layout, is_digit, is_alphanumeric, is_symbol}
-use Rattle.ml_token.specs.Gap.{begins_with}
-use Rattle.ml_token.specs.Tokens.{ends_clause}
+use Rattle.ml_token.specs.Bytes.{is_one_of, is_layout, is_digit, is_alphanumeric, is_symbol, begins_with, ends_clause}
 use Rattle.ml_token.specs.Language as language
 use Rattle.ml_token.specs.Language.{StopsAt, IsRun, IsToken}
-use Rattle.ml_token.proofs.Names.{is_one_of-passes}
+use Rattle.ml_token.proofs.NameBytes.{is_one_of-passes}
 use Rattle.ml_term.specs.Tree.{has}
 use Rattle.ml_term.specs.Text as T
 use Rattle.ml_term.specs.Text.{symbols, is_word, opens_comment, is_symbol_name, is_solo, is_bare}
 use Rattle.ml_reader.specs.Lexemes.{brackets_name, braces_name}
-use Rattle.ml_round_trip.proofs.Tests.{both, either, same_bytes}
+use Rattle.ml_round_trip.proofs.BooleanTests.{both, either, same_bytes}
 
 -- the bytes that stand behind names, numbers and variables in canonical text
 abbrev pub is_stop : ℕ → Bool
@@ -78,7 +76,7 @@ all_symbols : (bs : List ℕ) → list_all T.is_symbol bs ≡ true → list_all 
 all_symbols [] e = refl
 all_symbols (b ∷ bs) e = let h = both (T.is_symbol b) (list_all T.is_symbol bs) e in rw (same_symbol b h.0, all_symbols bs h.1) refl
 
-pub word_token : (f rest : List ℕ) → is_word f ≡ true → length f ≤ LONGEST_NAME → StopsFirst rest → IsToken Name f rest
+pub word_token : (f rest : List ℕ) → is_word f ≡ true → length f ≤ max_name_bytes → StopsFirst rest → IsToken Name f rest
 word_token [] rest e short stops = absurd (cc)
 word_token (b ∷ bs) rest e short stops =
     let h = both (T.is_lowercase b) (list_all T.is_alphanumeric bs) e in
@@ -99,7 +97,7 @@ no_comment : (b : ℕ) (bs rest : List ℕ) → opens_comment (b ∷ bs) ≡ fal
 no_comment b [] rest other stops = and_false (b == 47) (begins_with 42 rest) (no_star rest stops)
 no_comment b (c ∷ cs) rest other stops = other
 
-pub symbol_token : (f rest : List ℕ) → is_symbol_name f ≡ true → length f ≤ LONGEST_NAME → StopsFirst rest → IsToken Name f rest
+pub symbol_token : (f rest : List ℕ) → is_symbol_name f ≡ true → length f ≤ max_name_bytes → StopsFirst rest → IsToken Name f rest
 symbol_token [] rest e short stops = absurd (cc)
 symbol_token (b ∷ bs) rest e short stops =
     let h = both (list_all T.is_symbol (b ∷ bs) && not (bytes_eq (b ∷ bs) (codes "."))) (not (opens_comment (b ∷ bs))) e in
@@ -116,7 +114,7 @@ solo_token f rest e one other =
       | inr h ↦ subst (λ g. IsToken Name g rest) (sym (same_bytes f (codes ";") h)) (language.solo_name refl)
     ]
 
-pub bare_token : (f rest : List ℕ) → is_bare f ≡ true → bytes_eq f brackets_name ≡ false → bytes_eq f braces_name ≡ false → length f ≤ LONGEST_NAME
+pub bare_token : (f rest : List ℕ) → is_bare f ≡ true → bytes_eq f brackets_name ≡ false → bytes_eq f braces_name ≡ false → length f ≤ max_name_bytes
     → StopsFirst rest
     → IsToken Name f rest
 bare_token f rest e one other short stops =

@@ -4,8 +4,8 @@ use Rattle.std.proofs.Common.{refl, sym, ap, ◌∙◌, subst, arith, append_ass
 use Rattle.std.proofs.lemmas.Bool.{lt-ltb, le-ltb}
 use Rattle.std.proofs.lemmas.Bool.Decides.{eqb_tells}
 use Rattle.ml_term.specs.Tree.{has, firsts, without, place_in}
-use Rattle.ml_term.proofs.Distinct.{has_append}
-use Rattle.ml_round_trip.proofs.InOrder.{grown, counted, InOrder}
+use Rattle.ml_term.proofs.DistinctCounts.{has_append}
+use Rattle.ml_round_trip.proofs.PlacesInOrder.{grown, counted, InOrder}
 
 -- the numbers that don't stand among some
 abbrev left : List ℕ → List ℕ → List ℕ

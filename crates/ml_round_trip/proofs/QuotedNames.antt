@@ -7,7 +7,7 @@ use Rattle.ml_token.specs.Quoted.{escape_of}
 use Rattle.ml_token.specs.Language.{is_plain, Spells, nothing, plain, escape}
 use Rattle.ml_term.specs.Names.{is_name_byte}
 use Rattle.ml_term.specs.Text.{escape_letters, quoted_byte}
-use Rattle.ml_round_trip.proofs.Tests.{cond_cases, both, either}
+use Rattle.ml_round_trip.proofs.BooleanTests.{cond_cases, both, either}
 
 -- the letters stand for the bytes 7 to 13
 letter_of : (k : ℕ) → k ≤ 6 → escape_of (slice_index escape_letters k) ≡ Some (7 + k)

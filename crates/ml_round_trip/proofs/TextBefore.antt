@@ -4,7 +4,7 @@ use Rattle.std.specs.Str.{bytes_eq}
 use Rattle.std.proofs.Common.{refl, sym, ap, ◌∙◌, append_assoc, append-nil}
 use Rattle.ml_term.specs.Tree.{Tree, Trees, variable, integer, atom, compound, no_trees, tree}
 use Rattle.ml_term.specs.Decimal.{decimal_text, integer_text}
-use Rattle.ml_term.specs.Text.{comma, atom_text, is_cell, nil, joined, text, texts, cell_text, rest_text}
+use Rattle.ml_term.specs.Text.{comma, atom_text, is_cell, nil, join_by_commas, text, texts, cell_text, rest_text}
 
 module _ (number : ℕ → ℕ) where
   abbrev mutual
@@ -42,7 +42,7 @@ module _ (number : ℕ → ℕ) where
   more_text no_trees = []
   more_text (tree t ts) = comma ∷ (text number t ++ more_text ts)
 
-  joined_more : (t : Tree) (ts : Trees) → joined (text number t ∷ texts number ts) ≡ text number t ++ more_text ts
+  joined_more : (t : Tree) (ts : Trees) → join_by_commas (text number t ∷ texts number ts) ≡ text number t ++ more_text ts
   joined_more t no_trees = sym (append-nil (text number t))
   joined_more t (tree u us) = ap (λ xs. text number t ++ comma ∷ xs) (joined_more u us)
 
@@ -65,11 +65,11 @@ module _ (number : ℕ → ℕ) where
     text_is (integer z) bs = refl
     text_is (atom f) bs = refl
     text_is (compound f ts) bs =
-        cond_before (is_cell f ts) (91 ∷ cell_text number ts ++ 93 ∷ []) (atom_text f ++ 40 ∷ joined (texts number ts) ++ 41 ∷ []) bs _ _
+        cond_before (is_cell f ts) (91 ∷ cell_text number ts ++ 93 ∷ []) (atom_text f ++ 40 ∷ join_by_commas (texts number ts) ++ 41 ∷ []) bs _ _
         (in_brackets (cell_text number ts) bs _ (cell_is ts (93 ∷ bs)))
-        (in_parentheses (atom_text f) (joined (texts number ts)) bs _ (arguments_are ts (41 ∷ bs)))
+        (in_parentheses (atom_text f) (join_by_commas (texts number ts)) bs _ (arguments_are ts (41 ∷ bs)))
 
-    arguments_are : (ts : Trees) (bs : List ℕ) → joined (texts number ts) ++ bs ≡ arguments_before ts bs
+    arguments_are : (ts : Trees) (bs : List ℕ) → join_by_commas (texts number ts) ++ bs ≡ arguments_before ts bs
     arguments_are no_trees bs = refl
     arguments_are (tree t ts) bs =
         ap (λ xs. xs ++ bs) (joined_more t ts) ∙
@@ -93,6 +93,6 @@ module _ (number : ℕ → ℕ) where
     rest_is (integer z) bs = refl
     rest_is (atom f) bs = cond_before (bytes_eq f nil) [] (124 ∷ atom_text f) bs _ _ refl refl
     rest_is (compound f ts) bs =
-        cond_before (is_cell f ts) (comma ∷ cell_text number ts) (124 ∷ (atom_text f ++ 40 ∷ joined (texts number ts) ++ 41 ∷ [])) bs _ _
+        cond_before (is_cell f ts) (comma ∷ cell_text number ts) (124 ∷ (atom_text f ++ 40 ∷ join_by_commas (texts number ts) ++ 41 ∷ [])) bs _ _
         (ap (λ xs. comma ∷ xs) (cell_is ts bs))
-        (ap (λ xs. 124 ∷ xs) (in_parentheses (atom_text f) (joined (texts number ts)) bs _ (arguments_are ts (41 ∷ bs))))
+        (ap (λ xs. 124 ∷ xs) (in_parentheses (atom_text f) (join_by_commas (texts number ts)) bs _ (arguments_are ts (41 ∷ bs))))

@@ -7,8 +7,8 @@ use Rattle.std.proofs.lemmas.Slice.Eq.{bytes_eq-Decides}
 use Rattle.ml_term.specs.Decimal.{decimal_text}
 use Rattle.ml_reader.specs.Tokens.{find_name, is_anonymous}
 use Rattle.ml_round_trip.specs.ReadBack.{variable_name, variable_names}
-use Rattle.ml_round_trip.proofs.Tests.{same_bytes}
-use Rattle.ml_round_trip.proofs.Digits.{decimal_is, decimal_apart}
+use Rattle.ml_round_trip.proofs.BooleanTests.{same_bytes}
+use Rattle.ml_round_trip.proofs.DecimalDigits.{decimal_is, decimal_apart}
 
 found_first : (ns ms : List (List ℕ × ℕ)) (f : List ℕ) (p : ℕ) → find_name ns f ≡ Some p → find_name (ns ++ ms) f ≡ Some p
 found_first [] ms f p e = absurd (cc)

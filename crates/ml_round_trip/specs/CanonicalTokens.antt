@@ -1,17 +1,25 @@
--- The tokens of canonical text, as a recursion on trees that has a case for each case of the text. It knows no bytes; the grammar and the cutting of
--- a text into tokens know no canonical text.
-use Rattle.std.specs.Prelude.{ℕ, suc, true, false, not, ℤ, pos, negsuc, List, ◌∷◌, cond, codes}
+-- The tokens of canonical text, as a recursion on trees that has a case for each case of the text.
+-- It knows no bytes; the grammar and the cutting of a text into tokens know no canonical text.
+use Rattle.std.specs.Prelude.{ℕ, suc, true, false, not, ℤ, pos, negsuc, List, ◌∷◌, if◌then◌else◌}
+use Rattle.std.specs.Prelude.{codes}
 use Rattle.std.specs.Str.{bytes_eq}
-use Rattle.ml_term.specs.Tree.{Tree, Trees, variable, integer, atom, compound, no_trees, tree, variables, firsts, place_in}
+use Rattle.ml_term.specs.Tree.{Tree, Trees, variable, integer, atom, compound, no_trees, tree}
+use Rattle.ml_term.specs.Tree.{variables, firsts, place_in}
 use Rattle.ml_term.specs.Text.{is_bare, is_cell}
-use Rattle.ml_reader.specs.Lexemes.{Lexeme, name, unknown, number, paren, close, bracket, unbracket, brace, unbrace, bar, comma, brackets_name, braces_name}
+use Rattle.ml_reader.specs.Lexemes.{Lexeme, name, variable_lexeme, number, open_paren, close_paren}
+use Rattle.ml_reader.specs.Lexemes.{open_list, close_list, open_curly, close_curly}
+use Rattle.ml_reader.specs.Lexemes.{head_tail_separator, comma, brackets_name, braces_name}
 
--- the tokens of a name before others: two brackets, two braces, or one token, which stands in quotes unless it is written bare
+-- the tokens of a name before others: two brackets, two braces, or one token, which stands in
+-- quotes unless it is written bare
 abbrev pub name_tokens : List ℕ → List Lexeme → List Lexeme
 name_tokens f ys =
-    cond (bytes_eq f brackets_name) (bracket ∷ unbracket ∷ ys) (cond (bytes_eq f braces_name) (brace ∷ unbrace ∷ ys) (name (not (is_bare f)) f ∷ ys))
+    if bytes_eq f brackets_name then open_list ∷ close_list ∷ ys
+    else (if bytes_eq f braces_name then open_curly ∷ close_curly ∷ ys
+    else name (not (is_bare f)) f ∷ ys)
 
--- the tokens of an integer before others: a minus where it is negative, and a number that directly follows the token before
+-- the tokens of an integer before others: a minus where it is negative, and a number that directly
+-- follows the token before
 abbrev pub integer_tokens : ℤ → List Lexeme → List Lexeme
 integer_tokens (pos n) ys = number true n ∷ ys
 integer_tokens (negsuc n) ys = name false (codes "-") ∷ number true (suc n) ∷ ys
@@ -21,10 +29,12 @@ module _ (place : ℕ → ℕ) where
   abbrev mutual
     -- a term
     pub tokens : Tree → List Lexeme → List Lexeme
-    tokens (variable n) ys = unknown (place n) ∷ ys
+    tokens (variable n) ys = variable_lexeme (place n) ∷ ys
     tokens (integer z) ys = integer_tokens z ys
     tokens (atom f) ys = name_tokens f ys
-    tokens (compound f ts) ys = cond (is_cell f ts) (bracket ∷ cell_tokens ts (unbracket ∷ ys)) (name_tokens f (paren true ∷ argument_tokens ts (close ∷ ys)))
+    tokens (compound f ts) ys =
+        if is_cell f ts then open_list ∷ cell_tokens ts (close_list ∷ ys)
+        else name_tokens f (open_paren true ∷ argument_tokens ts (close_paren ∷ ys))
 
     -- arguments
     pub argument_tokens : Trees → List Lexeme → List Lexeme
@@ -41,13 +51,17 @@ module _ (place : ℕ → ℕ) where
     cell_tokens (tree h (tree t no_trees)) ys = tokens h (rest_tokens t ys)
     cell_tokens ts ys = ys
 
-    -- what follows a head: a comma and the next cell, nothing at the end `[]`, or a bar and another end
+    -- what follows a head: a comma and the next cell, nothing at the end `[]`, or a bar and another
+    -- end
     pub rest_tokens : Tree → List Lexeme → List Lexeme
-    rest_tokens (variable n) ys = bar ∷ unknown (place n) ∷ ys
-    rest_tokens (integer z) ys = bar ∷ integer_tokens z ys
-    rest_tokens (atom f) ys = cond (bytes_eq f brackets_name) ys (bar ∷ name_tokens f ys)
+    rest_tokens (variable n) ys = head_tail_separator ∷ variable_lexeme (place n) ∷ ys
+    rest_tokens (integer z) ys = head_tail_separator ∷ integer_tokens z ys
+    rest_tokens (atom f) ys =
+        if bytes_eq f brackets_name then ys else head_tail_separator ∷ name_tokens f ys
     rest_tokens (compound f ts) ys =
-        cond (is_cell f ts) (comma ∷ cell_tokens ts ys) (bar ∷ name_tokens f (paren true ∷ argument_tokens ts (close ∷ ys)))
+        if is_cell f ts then comma ∷ cell_tokens ts ys
+        else head_tail_separator ∷ name_tokens f
+        (open_paren true ∷ argument_tokens ts (close_paren ∷ ys))
 
 -- the tokens of a term's canonical text before others, its variables numbered from 0 by first place
 abbrev pub tokens_of : Tree → List Lexeme → List Lexeme

@@ -1,6 +1,7 @@
--- How many levels the canonical text of a term opens at once, as a recursion on trees that has a case for each case of the text: one in the brackets
--- of a list and one in the parentheses of arguments, however many elements and arguments there are, and one in the name `[]` or `{}`.
-use Rattle.std.specs.Prelude.{ℕ, ◌+◌, max, ◌||◌, cond, List}
+-- How many levels the canonical text of a term opens at once, as a recursion on trees that has a
+-- case for each case of the text: one in the brackets of a list and one in the parentheses of
+-- arguments, however many elements and arguments there are, and one in the name `[]` or `{}`.
+use Rattle.std.specs.Prelude.{ℕ, ◌+◌, max, ◌||◌, if◌then◌else◌, List}
 use Rattle.std.specs.Str.{bytes_eq}
 use Rattle.ml_term.specs.Tree.{Tree, Trees, variable, integer, atom, compound, no_trees, tree}
 use Rattle.ml_term.specs.Text.{is_cell}
@@ -8,7 +9,7 @@ use Rattle.ml_reader.specs.Lexemes.{brackets_name, braces_name}
 
 -- a name
 abbrev pub name_levels : List ℕ → ℕ
-name_levels f = cond (bytes_eq f brackets_name || bytes_eq f braces_name) 1 0
+name_levels f = if bytes_eq f brackets_name || bytes_eq f braces_name then 1 else 0
 
 abbrev mutual
   -- a term
@@ -16,7 +17,7 @@ abbrev mutual
   text_levels (variable n) = 0
   text_levels (integer z) = 0
   text_levels (atom f) = name_levels f
-  text_levels (compound f ts) = 1 + cond (is_cell f ts) (cell_levels ts) (argument_levels ts)
+  text_levels (compound f ts) = 1 + (if is_cell f ts then cell_levels ts else argument_levels ts)
 
   -- arguments
   pub argument_levels : Trees → ℕ
@@ -32,5 +33,5 @@ abbrev mutual
   pub rest_levels : Tree → ℕ
   rest_levels (variable n) = 0
   rest_levels (integer z) = 0
-  rest_levels (atom f) = cond (bytes_eq f brackets_name) 0 (name_levels f)
-  rest_levels (compound f ts) = cond (is_cell f ts) (cell_levels ts) (1 + argument_levels ts)
+  rest_levels (atom f) = if bytes_eq f brackets_name then 0 else name_levels f
+  rest_levels (compound f ts) = if is_cell f ts then cell_levels ts else 1 + argument_levels ts

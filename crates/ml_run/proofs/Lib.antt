@@ -1,8 +1,8 @@
 mod RulesReadings
-mod Outcomes
-mod Refusals
-mod Scripts
-mod Loading
-mod Writing
-mod Blocks
-mod Playing
+mod OneOutcome
+mod RefusalCauses
+mod ScriptsInTurn
+mod FetchedTexts
+mod WritesInTurn
+mod EntryBlocks
+mod WriteCauses

@@ -1,65 +1,62 @@
--- Why a step of a run gave no result. The causes of a whole run are those of its steps, one after another.
-use Rattle.std.specs.Prelude.{◌≡◌, ◌⊎◌, ◌≤◌, ◌<◌, ◌+◌, ℕ, List, Option, Some, None, Ok, Err, IfSome, length, take}
-use Rattle.std.specs.FinMap as map
+-- Why a run ended as it did. The code hands on what it met; here a cause is told by what the shelf
+-- holds and by counts of faults.
+use Rattle.std.specs.Prelude.{◌≡◌, ◌⊎◌, ◌≤◌, ◌+◌, ℕ, List, Option, IfSome, take}
 use Rattle.ml_outside.specs.Held.{Files}
 use Rattle.ml_outside.specs.Causes.{Rose}
-use Rattle.ml_term.specs.Tree.{Tree}
-use Rattle.ml_search.specs.Program.{Program, Script}
-use Rattle.ml_run.specs.Texts.{text_limit}
-use Rattle.ml_run.specs.Outcomes.{refused, inputs, ScriptsCome, FilesLead}
+use Rattle.ml_run.specs.Words.{AreBad, NamesFile}
+use Rattle.ml_run.specs.Outcomes.{Outcome, refusal, Leads, HasInputs, status_of}
 use Rattle.ml_run.specs.declared.status.Status.{Status}
-use Rattle.ml_run.specs.declared.status.Status.TheVariants.{NoFile, TooLong, ReadFailed, RulesRefused, ScriptRefused, WriteFailed, OutOfMemory, NotBuilt}
+use Rattle.ml_run.specs.declared.status.Status.TheVariants.{Done, BadWords, NoFile, TooLong}
+use Rattle.ml_run.specs.declared.status.Status.TheVariants.{ReadFailed, RulesRefused, ScriptRefused}
+use Rattle.ml_run.specs.declared.status.Status.TheVariants.{WriteFailed, OutOfMemory, NotBuilt}
 
--- more bytes than the limit stand under the name
-abbrev pub HoldsLong : Files → List ℕ → Type 0
-HoldsLong files name = (bytes : List ℕ) × (map.get files name ≡ Some bytes) × (text_limit < length bytes)
+-- the counts of faults of a shelf and of a sink, before a call and after it
+pub record Counts : Type 0 where
+  pub reads : ℕ
+  pub reads_now : ℕ
+  pub writes : ℕ
+  pub writes_now : ℕ
 
--- why the text under a name, which this word gives, isn't had
-abbrev pub FetchStops : Option Files → List ℕ → ℕ → ℕ → ℕ → Status → Type 0
-FetchStops held name word before now (NoFile i) = (i ≡ word) × IfSome held (λ files. map.get files name ≡ None)
-FetchStops held name word before now (TooLong i) = (i ≡ word) × IfSome held (λ files. HoldsLong files name)
-FetchStops held name word before now (ReadFailed i) = (i ≡ word) × Rose before now
-FetchStops held name word before now OutOfMemory = Unit {0}
-FetchStops held name word before now status = ⊥
+-- these counts: those of the shelf before and after, and those of the sink
+abbrev pub counts_of : ℕ → ℕ → ℕ → ℕ → Counts
+counts_of reads reads_now writes writes_now =
+    record { reads = reads; reads_now = reads_now; writes = writes; writes_now = writes_now }
 
--- the status tells what stands under the name that a word gives
-abbrev pub TellsOf : ℕ → Status → Type 0
-TellsOf word (NoFile i) = i ≡ word
-TellsOf word (TooLong i) = i ≡ word
-TellsOf word (RulesRefused f) = word ≡ 1
-TellsOf word (ScriptRefused k f) = (1 ≤ k) × (word ≡ 1 + k)
-TellsOf word (NotBuilt i) = i ≡ word
-TellsOf word status = ⊥
+-- a word names a file that was refused in this way; where the shelf tells, this is the first
+-- refusal
+abbrev pub RefusesFile : Option Files → List (List ℕ) → ℕ → Status → Type 0
+RefusesFile held words i status =
+    NamesFile words i × IfSome held (λ files. Leads files words (refusal status))
 
--- Why what stands under the name that a word gives isn't had, where it is said to which refusals files lead.
-abbrev pub Stops : Option Files → (Files → Status → Type 0) → ℕ → ℕ → ℕ → Status → Type 0
-Stops held Leading word before now (ReadFailed i) = (i ≡ word) × Rose before now
-Stops held Leading word before now OutOfMemory = Unit {0}
-Stops held Leading word before now status = TellsOf word status × IfSome held (λ files. Leading files status)
+-- a word names a file; where the shelf tells, no file before it was refused: it is that of the
+-- rules, or the words before it lead to inputs
+abbrev pub ReachesFile : Option Files → List (List ℕ) → ℕ → Type 0
+ReachesFile held words i =
+    NamesFile words i × IfSome held (λ files. (i ≡ 1) ⊎ HasInputs files (take i words))
 
--- why scripts aren't had: so many before were read, and the next one stops it
-pub record ScriptsStop (held : Option Files) (p : Program) (names : List (List ℕ)) (before now : ℕ) (status : Status) : Type 0 where
-  pub got : ℕ
-  pub there : got < length names
-  pub reached : IfSome held (λ files. (ss : List Script) × ScriptsCome files p 1 (take got names) (Ok ss))
-  pub stops : Stops held (λ files status. ScriptsCome files p 1 names (Err status)) (2 + got) before now status
+-- when each status comes; for want of memory nothing is said
+abbrev pub IsCaused : Option Files → List (List ℕ) → Counts → Status → Type 0
+IsCaused held words counts Done = IfSome held (λ files. HasInputs files words)
+IsCaused held words counts BadWords = AreBad words
+IsCaused held words counts (NoFile i) = RefusesFile held words i (NoFile i)
+IsCaused held words counts (TooLong i) = RefusesFile held words i (TooLong i)
+IsCaused held words counts (ReadFailed i) =
+    Rose counts.reads counts.reads_now × ReachesFile held words i
+IsCaused held words counts (RulesRefused f) = RefusesFile held words 1 (RulesRefused f)
+IsCaused held words counts (ScriptRefused k f) =
+    (1 ≤ k) × RefusesFile held words (1 + k) (ScriptRefused k f)
+IsCaused held words counts WriteFailed =
+    Rose counts.writes counts.writes_now × IfSome held (λ files. HasInputs files words)
+IsCaused held words counts OutOfMemory = Unit {0}
+IsCaused held words counts (NotBuilt i) = RefusesFile held words i (NotBuilt i)
 
--- no file before that of a word is refused: it is that of the rules, or the rules and the scripts before it are inputs
-abbrev pub IsReached : Files → List ℕ → List (List ℕ) → ℕ → Type 0
-IsReached files rules scripts word =
-    (word ≡ 1)
-    ⊎ ((got : ℕ) × (word ≡ 2 + got) × (p : Program) × (items : List (ℕ × Tree)) × (ss : List Script) × FilesLead files rules (take got scripts) (inputs p items ss))
+-- no fault was counted
+pub record IsQuiet (counts : Counts) : Type 0 where
+  pub no_read_fault : Rose counts.reads counts.reads_now → ⊥
+  pub no_write_fault : Rose counts.writes counts.writes_now → ⊥
 
--- why the files aren't had: the one that a word names stops it, and none before it
-pub record FilesStop (held : Option Files) (rules : List ℕ) (scripts : List (List ℕ)) (before now : ℕ) (status : Status) : Type 0 where
-  pub word : ℕ
-  pub some : 1 ≤ word
-  pub there : word ≤ 1 + length scripts
-  pub reached : IfSome held (λ files. IsReached files rules scripts word)
-  pub stops : Stops held (λ files status. FilesLead files rules scripts (refused status)) word before now status
-
--- why the output isn't written
-abbrev pub WriteStops : ℕ → ℕ → Status → Type 0
-WriteStops before now WriteFailed = Rose before now
-WriteStops before now OutOfMemory = Unit {0}
-WriteStops before now status = ⊥
+-- what the words lead to is told, unless memory is refused
+abbrev pub TellsOutcome : Files → List (List ℕ) → Status → Type 0
+TellsOutcome files words status =
+    (outcome : Outcome) → Leads files words outcome →
+    (status ≡ status_of outcome) ⊎ (status ≡ OutOfMemory)

@@ -3,7 +3,15 @@ use Rattle.std.specs.Prelude.{ℕ, List, ◌++◌, codes}
 use Rattle.ml_term.specs.Decimal.{decimal_text}
 use Rattle.ml_reader.specs.declared.fault.ReadFault.{ReadFault}
 use Rattle.ml_reader.specs.declared.fault.ReadKind.{ReadKind}
-use Rattle.ml_reader.specs.declared.fault.ReadKind.TheVariants.{BadCharacter, OpenQuote, OpenComment, BadEscape, NumberTooLarge, NameTooLong, LeftOutQuote, TooDeep, ArityTooLarge, ClauseTooLong, PriorityClash, Unexpected, TooManyNodes, BadDeclaration, TwiceDeclared, BadClause, ItemTooLarge, BadScriptItem}
+use Rattle.ml_reader.specs.declared.fault.ReadKind.TheVariants.{BadCharacter, OpenQuote}
+use Rattle.ml_reader.specs.declared.fault.ReadKind.TheVariants.{OpenComment, BadEscape}
+use Rattle.ml_reader.specs.declared.fault.ReadKind.TheVariants.{NumberTooLarge, NameTooLong}
+use Rattle.ml_reader.specs.declared.fault.ReadKind.TheVariants.{LeftOutQuote, TooDeep}
+use Rattle.ml_reader.specs.declared.fault.ReadKind.TheVariants.{ArityTooLarge, ClauseTooLong}
+use Rattle.ml_reader.specs.declared.fault.ReadKind.TheVariants.{PriorityClash, Unexpected}
+use Rattle.ml_reader.specs.declared.fault.ReadKind.TheVariants.{TooManyNodes, BadDeclaration}
+use Rattle.ml_reader.specs.declared.fault.ReadKind.TheVariants.{TwiceDeclared, BadClause}
+use Rattle.ml_reader.specs.declared.fault.ReadKind.TheVariants.{ItemTooLarge, BadScriptItem}
 
 -- the name of a kind of fault
 abbrev pub kind_text : ReadKind → List ℕ

@@ -1,11 +1,9 @@
+pub mod Limits
 pub mod Words
 pub mod Faults
 pub mod Status
 pub mod Texts
 pub mod Outcomes
 pub mod Causes
-pub mod Answers
-pub mod Seen
-pub mod Entries
 pub mod Prints
-pub mod Playing
+pub mod inside

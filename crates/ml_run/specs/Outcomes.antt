@@ -1,21 +1,25 @@
--- The first refusal, or the inputs, for what a shelf holds: words first, then the rules, then each script in order. The code stops at the first refusal; here
--- it is said what each file comes to.
-use Rattle.std.specs.Prelude.{◌≡◌, ◌⊎◌, ◌+◌, ◌&&◌, ℕ, Bool, true, false, List, [], ◌∷◌, Result, Ok, Err, cond}
+-- The first refusal, or the inputs, for what a shelf holds: words first, then the rules, then each
+-- script in order. The code stops at the first refusal; here it is said what each file comes to.
+use Rattle.std.specs.Prelude.{◌≡◌, ◌⊎◌, ◌+◌, ◌&&◌, ℕ, Bool, true, false, List, [], ◌∷◌, Result, Ok}
+use Rattle.std.specs.Prelude.{Err, if◌then◌else◌}
 use Rattle.std.specs.List.{list_all}
 use Rattle.ml_outside.specs.Held.{Files}
 use Rattle.ml_term.specs.Tree.{Tree}
 use Rattle.ml_search.specs.Program.{Program, Clause, Script, is_relation}
 use Rattle.ml_relation.specs.Calls.{is_of_relations}
 use Rattle.ml_run.specs.Words.{AreWords, AreBad}
-use Rattle.ml_run.specs.Texts.{Found, absent, long, faulty, spelled, Loads, AreRules, IsScriptFile}
+use Rattle.ml_run.specs.Texts.{FileContent, no_file, over_limit, fault_in, content, RulesContent}
+use Rattle.ml_run.specs.Texts.{AreRules, IsScriptFile}
 use Rattle.ml_run.specs.declared.status.Status.{Status}
-use Rattle.ml_run.specs.declared.status.Status.TheVariants.{Done, BadWords, NoFile, TooLong, RulesRefused, ScriptRefused, NotBuilt}
+use Rattle.ml_run.specs.declared.status.Status.TheVariants.{Done, BadWords, NoFile, TooLong}
+use Rattle.ml_run.specs.declared.status.Status.TheVariants.{RulesRefused, ScriptRefused, NotBuilt}
 
 -- a refusal by its status, or the program, its initial items and the scripts
 pub data Outcome : Type 0 where
-  refused : Status → Outcome
+  refusal : Status → Outcome
   inputs : Program → List (ℕ × Tree) → List Script → Outcome
 
+-- whether there are no clauses
 abbrev pub is_no_clause : List Clause → Bool
 is_no_clause [] = true
 is_no_clause (c ∷ cs) = false
@@ -25,68 +29,81 @@ abbrev pub is_built : Program → Bool
 is_built p = list_all is_relation p.decls && is_no_clause p.clauses
 
 -- what rules come to
-abbrev pub rules_come : Found Loads → Result Loads Status
-rules_come absent = Err (NoFile 1)
-rules_come long = Err (TooLong 1)
-rules_come (faulty f) = Err (RulesRefused f)
-rules_come (spelled r) = cond (is_built r.0) (Ok r) (Err (NotBuilt 1))
+abbrev pub rules_come : FileContent RulesContent → Result RulesContent Status
+rules_come no_file = Err (NoFile 1)
+rules_come over_limit = Err (TooLong 1)
+rules_come (fault_in f) = Err (RulesRefused f)
+rules_come (content r) = if is_built r.0 then Ok r else Err (NotBuilt 1)
 
--- what script k comes to, from 1; word 1 + k names it. One whose goals aren't all calls of relations, or that doesn't commit, isn't run so far
-abbrev pub script_comes : Program → ℕ → Found Script → Result Script Status
-script_comes p k absent = Err (NoFile (1 + k))
-script_comes p k long = Err (TooLong (1 + k))
-script_comes p k (faulty f) = Err (ScriptRefused k f)
-script_comes p k (spelled s) = cond (is_of_relations p.decls s) (Ok s) (Err (NotBuilt (1 + k)))
+-- what script k comes to, from 1; word 1 + k names it. One whose goals aren't all calls of
+-- relations, or that doesn't commit, isn't run so far
+abbrev pub script_comes : Program → ℕ → FileContent Script → Result Script Status
+script_comes p k no_file = Err (NoFile (1 + k))
+script_comes p k over_limit = Err (TooLong (1 + k))
+script_comes p k (fault_in f) = Err (ScriptRefused k f)
+script_comes p k (content s) = if is_of_relations p.decls s then Ok s else Err (NotBuilt (1 + k))
 
 -- the file of the rules comes to this
-abbrev pub RulesCome : Files → List ℕ → Result Loads Status → Type 0
-RulesCome files name r = (found : Found Loads) × AreRules files name found × (rules_come found ≡ r)
+abbrev pub RulesCome : Files → List ℕ → Result RulesContent Status → Type 0
+RulesCome files name r =
+    (found : FileContent RulesContent) × AreRules files name found × (rules_come found ≡ r)
 
 -- the file of script k comes to this
 abbrev pub ScriptComes : Files → Program → ℕ → List ℕ → Result Script Status → Type 0
-ScriptComes files p k name r = (found : Found Script) × IsScriptFile files name found × (script_comes p k found ≡ r)
+ScriptComes files p k name r =
+    (found : FileContent Script) × IsScriptFile files name found × (script_comes p k found ≡ r)
 
 -- scripts with one before them
 abbrev pub with_script : Script → Result (List Script) Status → Result (List Script) Status
 with_script s (Ok ss) = Ok (s ∷ ss)
 with_script s (Err status) = Err status
 
--- What a script and those behind it come to: the script's refusal, or the script before what those behind it come to.
-abbrev pub FirstComes : Result Script Status → (Result (List Script) Status → Type 0) → Result (List Script) Status → Type 0
+-- What a script and those behind it come to: the script's refusal, or the script before what those
+-- behind it come to.
+abbrev pub FirstComes : Result Script Status → (Result (List Script) Status → Type 0) →
+    Result (List Script) Status → Type 0
 FirstComes (Err status) Behind r = r ≡ Err status
-FirstComes (Ok s) Behind r = (rest : Result (List Script) Status) × Behind rest × (r ≡ with_script s rest)
+FirstComes (Ok s) Behind r =
+    (rest : Result (List Script) Status) × Behind rest × (r ≡ with_script s rest)
 
 -- the files of the scripts from number k on come to this
 abbrev pub ScriptsCome : Files → Program → ℕ → List (List ℕ) → Result (List Script) Status → Type 0
 ScriptsCome files p k [] r = r ≡ Ok []
 ScriptsCome files p k (name ∷ names) r =
-    (first : Result Script Status) × ScriptComes files p k name first × FirstComes first (λ rest. ScriptsCome files p (1 + k) names rest) r
+    (first : Result Script Status) × ScriptComes files p k name first
+    × FirstComes first (λ rest. ScriptsCome files p (1 + k) names rest) r
 
 -- what the rules and all scripts come to
-abbrev pub outcome_of : Loads → Result (List Script) Status → Outcome
+abbrev pub outcome_of : RulesContent → Result (List Script) Status → Outcome
 outcome_of r (Ok ss) = inputs r.0 r.1 ss
-outcome_of r (Err status) = refused status
+outcome_of r (Err status) = refusal status
 
 -- what the scripts lead to behind what the rules came to
-abbrev pub RulesLead : Files → List (List ℕ) → Result Loads Status → Outcome → Type 0
-RulesLead files scripts (Err status) outcome = outcome ≡ refused status
-RulesLead files scripts (Ok r) outcome = (ss : Result (List Script) Status) × ScriptsCome files r.0 1 scripts ss × (outcome ≡ outcome_of r ss)
+abbrev pub RulesLead : Files → List (List ℕ) → Result RulesContent Status → Outcome → Type 0
+RulesLead files scripts (Err status) outcome = outcome ≡ refusal status
+RulesLead files scripts (Ok r) outcome =
+    (ss : Result (List Script) Status) × ScriptsCome files r.0 1 scripts ss
+    × (outcome ≡ outcome_of r ss)
 
 -- what the files of these names lead to
 abbrev pub FilesLead : Files → List ℕ → List (List ℕ) → Outcome → Type 0
-FilesLead files rules scripts outcome = (r : Result Loads Status) × RulesCome files rules r × RulesLead files scripts r outcome
+FilesLead files rules scripts outcome =
+    (r : Result RulesContent Status) × RulesCome files rules r × RulesLead files scripts r outcome
 
 -- what the words lead to
 abbrev pub Leads : Files → List (List ℕ) → Outcome → Type 0
 Leads files words outcome =
-    (AreBad words × (outcome ≡ refused BadWords))
-    ⊎ ((rules : List ℕ) × (scripts : List (List ℕ)) × AreWords words rules scripts × FilesLead files rules scripts outcome)
+    (AreBad words × (outcome ≡ refusal BadWords))
+    ⊎ ((rules : List ℕ) × (scripts : List (List ℕ)) × AreWords words rules scripts
+    × FilesLead files rules scripts outcome)
 
 -- they lead to inputs
 abbrev pub HasInputs : Files → List (List ℕ) → Type 0
-HasInputs files words = (p : Program) × (items : List (ℕ × Tree)) × (scripts : List Script) × Leads files words (inputs p items scripts)
+HasInputs files words =
+    (p : Program) × (items : List (ℕ × Tree)) × (scripts : List Script)
+    × Leads files words (inputs p items scripts)
 
 -- the status of an outcome, where no fault is counted and memory is there
 abbrev pub status_of : Outcome → Status
-status_of (refused status) = status
+status_of (refusal status) = status
 status_of (inputs p items scripts) = Done

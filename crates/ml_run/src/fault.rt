@@ -1,4 +1,4 @@
-// The text of a read fault.
+//! The text of a read fault.
 ghost use Rattle.std.specs.Prelude.{◌≡◌, IfOk};
 ghost use Rattle.std.specs.String.{string_bytes};
 ghost use Rattle.ml_run.specs.Faults.{kind_text, fault_text};

@@ -1,7 +1,13 @@
 //! Runs sessions over what a shelf holds, and prints what they did.
 //!
-//! It stands on ml_reader, which reads rules and scripts, on ml_relation, which runs a session, and on ml_outside, where files are fetched and output
-//! goes. `specs/Outcomes.antt` says to which inputs or to which first refusal the words lead, `specs/Prints.antt` what is printed; `serial` carries the headline.
+//! It stands on ml_search, which says what a history and its print are, on ml_reader, which reads
+//! rules and scripts, on ml_relation, which runs a session, on ml_writer, which writes its lines,
+//! and on ml_outside, where files are fetched and output goes. `specs/Outcomes.antt` says to which
+//! inputs or to which first refusal the words lead, `specs/Prints.antt` what is printed; `serial`
+//! carries the headline.
+//!
+//! With ml_relation go `is_built`, the refusals `NotBuilt`, and what `Inputs` keeps of sessions;
+//! the machine takes all goals.
 #![tactic(auto)]
 
 mod entries;
@@ -10,11 +16,12 @@ mod inputs;
 mod limits;
 mod line;
 mod load;
-mod play;
 mod run;
+mod run_and_print;
 mod status;
 mod words;
 
+pub use limits::{MAX_SCRIPTS, MAX_TEXT_BYTES, limits_of_runs};
 pub use line::line_of;
 pub use run::serial;
 pub use status::Status;

@@ -1,10 +1,10 @@
-// The line that tells of a status.
+//! The line that tells of a status.
 ghost use Rattle.std.specs.Prelude.{◌≡◌, ◌++◌, ◌<◌, codes, length, IfOk};
 ghost use Rattle.std.specs.String.{string_bytes};
 ghost use Rattle.ml_term.specs.Decimal.{decimal_text};
 ghost use Rattle.ml_run.specs.Faults.{fault_text};
 ghost use Rattle.ml_run.specs.Words.{texts};
-ghost use Rattle.ml_run.specs.Status.{NamesWord, fault_line, told};
+ghost use Rattle.ml_run.specs.Status.{NamesWord, fault_line, message_line};
 
 use crate::fault::fault_text;
 use crate::status::Status;
@@ -19,39 +19,43 @@ pub fn line_of(alloc: Global, status: &Status, words: &[&str]) -> Result<Vec<u8>
 {
     match *status {
         Status::Done => Ok(Vec::new(alloc)),
-        Status::BadWords => told(alloc, "bad words", ""),
-        Status::NoFile(word) => told(alloc, "no file ", words[word]),
-        Status::TooLong(word) => told(alloc, "too long ", words[word]),
-        Status::ReadFailed(word) => told(alloc, "cannot read ", words[word]),
+        Status::BadWords => message_line(alloc, "bad words", ""),
+        Status::NoFile(word) => message_line(alloc, "no file ", words[word]),
+        Status::TooLong(word) => message_line(alloc, "too long ", words[word]),
+        Status::ReadFailed(word) => message_line(alloc, "cannot read ", words[word]),
         Status::RulesRefused(fault) => rules_line(alloc, &fault),
         Status::ScriptRefused(number, fault) => script_line(alloc, number, &fault),
-        Status::WriteFailed => told(alloc, "cannot write", ""),
-        Status::OutOfMemory => told(alloc, "out of memory", ""),
-        Status::NotBuilt(word) => told(alloc, "not built ", words[word]),
+        Status::WriteFailed => message_line(alloc, "cannot write", ""),
+        Status::OutOfMemory => message_line(alloc, "out of memory", ""),
+        Status::NotBuilt(word) => message_line(alloc, "not built ", words[word]),
     }
 }
 
 // The line of rules that have a fault.
 fn rules_line(alloc: Global, fault: &ReadFault) -> Result<Vec<u8>, AllocError>
-    ensures { IfOk result (λ bytes. bytes.items ≡ told (codes "rules ") (fault_text fault.now)) }
+    ensures { IfOk result
+        (λ bytes. bytes.items ≡ message_line (codes "rules ") (fault_text fault.now)) }
 {
     let text = fault_text(alloc, fault)?;
-    told(alloc, "rules ", text.as_str())
+    message_line(alloc, "rules ", text.as_str())
 }
 
 // The line of a script that has a fault.
 fn script_line(alloc: Global, number: u32, fault: &ReadFault) -> Result<Vec<u8>, AllocError>
-    ensures { IfOk result (λ bytes. bytes.items ≡ told (codes "script ") (decimal_text number ++ codes " " ++ fault_text fault.now)) }
+    ensures { IfOk result
+        (λ bytes. bytes.items
+        ≡ message_line (codes "script ")
+        (decimal_text number ++ codes " " ++ fault_text fault.now)) }
 {
     std_writes_decimal_texts();
     let text = fault_text(alloc, fault)?;
     let numbered = format!(in alloc; "{number} {text}")?;
-    told(alloc, "script ", numbered.as_str())
+    message_line(alloc, "script ", numbered.as_str())
 }
 
 // A fault and what it concerns, as a line.
-fn told(alloc: Global, fault: &str, name: &str) -> Result<Vec<u8>, AllocError>
-    ensures { IfOk result (λ bytes. bytes.items ≡ told fault.now name.now) }
+fn message_line(alloc: Global, fault: &str, name: &str) -> Result<Vec<u8>, AllocError>
+    ensures { IfOk result (λ bytes. bytes.items ≡ message_line fault.now name.now) }
 {
     let mut line = Vec::new(alloc);
     line.extend_from_slice(b"megalog: ")?;

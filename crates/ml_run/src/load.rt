@@ -1,16 +1,19 @@
-// Fetches and reads the texts that the words name.
-ghost use Rattle.std.specs.Prelude.{◌≡◌, ◌≤◌, ◌+◌, false, IsTrue, IfOk, IfErr, IfSome, Ok, Err, length};
+//! Fetches and reads the texts that the words name.
+ghost use Rattle.std.specs.Prelude.{◌≡◌, ◌≤◌, ◌+◌, false, IsTrue, IfOk, IfErr, IfSome, Ok, Err};
+ghost use Rattle.std.specs.Prelude.{length};
 ghost use Rattle.std.specs.List.{list_all};
 ghost use Rattle.ml_search.specs.ProgramSeen.{program_seen, script_seen};
 ghost use Rattle.ml_relation.specs.Calls.{is_of_relations};
-ghost use Rattle.ml_run.specs.Words.{texts, most_scripts};
-ghost use Rattle.ml_run.specs.Texts.{HoldsText, text_limit};
-ghost use Rattle.ml_run.specs.Outcomes.{inputs, is_built, RulesCome, ScriptComes, ScriptsCome, FilesLead};
-ghost use Rattle.ml_run.specs.Causes.{FetchStops, Stops, ScriptsStop, FilesStop};
-ghost use Rattle.ml_run.specs.Seen.{rules_seen, scripts_seen};
+ghost use Rattle.ml_run.specs.Limits.{max_scripts, max_text_bytes};
+ghost use Rattle.ml_run.specs.Words.{texts};
+ghost use Rattle.ml_run.specs.Texts.{HoldsText};
+ghost use Rattle.ml_run.specs.Outcomes.{inputs, is_built, RulesCome, ScriptComes, ScriptsCome};
+ghost use Rattle.ml_run.specs.Outcomes.{FilesLead};
+ghost use Rattle.ml_run.specs.inside.StepCauses.{FetchStops, Stops, ScriptsStop, FilesStop};
+ghost use Rattle.ml_run.specs.inside.Seen.{rules_seen, scripts_seen};
 
 use crate::inputs::Inputs;
-use crate::limits::MAX_TEXT;
+use crate::limits::MAX_TEXT_BYTES;
 use crate::status::Status;
 use ml_outside::{FetchStop, Shelf};
 use ml_reader::{ReadStop, Rules, read_rules, read_script};
@@ -25,9 +28,14 @@ pub fn load<S: Shelf>(
     rules_file: &str,
     script_files: &[&str],
 ) -> Result<Inputs, Status>
-    requires { length script_files.now ≤ most_scripts }
-    ensures ok { IfOk result (λ i. IfSome (S.held shelf.old) (λ files. FilesLead files rules_file.now (texts script_files.now) (inputs (rules_seen i.rules).0 (rules_seen i.rules).1 (scripts_seen i.scripts.items)))) }
-    ensures err { IfErr result (λ status. FilesStop (S.held shelf.old) rules_file.now (texts script_files.now) (S.faults shelf.old) (S.faults shelf.new) status) }
+    requires { length script_files.now ≤ max_scripts }
+    ensures ok { IfOk result
+        (λ i. IfSome (S.held shelf.old)
+        (λ files. FilesLead files rules_file.now (texts script_files.now)
+        (inputs (rules_seen i.rules).0 (rules_seen i.rules).1 (scripts_seen i.scripts.items)))) }
+    ensures err { IfErr result
+        (λ status. FilesStop (S.held shelf.old) rules_file.now (texts script_files.now)
+        (S.faults shelf.old) (S.faults shelf.new) status) }
     ensures held { S.held shelf.new ≡ S.held shelf.old }
 {
     let rules = load_rules(alloc, shelf, rules_file)?;
@@ -37,9 +45,13 @@ pub fn load<S: Shelf>(
 
 // The rules under a name, which word 1 gives.
 fn load_rules<S: Shelf>(alloc: Global, shelf: &mut S, file: &str) -> Result<Rules, Status>
-    ensures ok { IfOk result (λ r. IfSome (S.held shelf.old) (λ files. RulesCome files file.now (Ok (rules_seen r)))) }
+    ensures ok { IfOk result
+        (λ r. IfSome (S.held shelf.old) (λ files. RulesCome files file.now (Ok (rules_seen r)))) }
     ensures built { IfOk result (λ r. IsTrue (is_built (program_seen r.program))) }
-    ensures err { IfErr result (λ status. Stops (S.held shelf.old) (λ files status. RulesCome files file.now (Err status)) 1 (S.faults shelf.old) (S.faults shelf.new) status) }
+    ensures err { IfErr result
+        (λ status. Stops (S.held shelf.old)
+        (λ files status. RulesCome files file.now (Err status)) 1 (S.faults shelf.old)
+        (S.faults shelf.new) status) }
     ensures held { S.held shelf.new ≡ S.held shelf.old }
     ensures later { S.faults shelf.old ≤ S.faults shelf.new }
 {
@@ -54,7 +66,8 @@ fn load_rules<S: Shelf>(alloc: Global, shelf: &mut S, file: &str) -> Result<Rule
 // Rules that are run so far.
 fn if_built(rules: Rules) -> Result<Rules, Status>
     ensures ok { IfOk result (λ r. (r ≡ rules) × IsTrue (is_built (program_seen r.program))) }
-    ensures err { IfErr result (λ status. (status ≡ Status.NotBuilt 1) × (is_built (program_seen rules.program) ≡ false)) }
+    ensures err { IfErr result
+        (λ status. (status ≡ Status.NotBuilt 1) × (is_built (program_seen rules.program) ≡ false)) }
 {
     if is_built(&rules.program) {
         return Ok(rules);
@@ -76,11 +89,17 @@ fn load_scripts<S: Shelf>(
     names: &[&str],
     program: &Program,
 ) -> Result<Vec<Script>, Status>
-    requires { length names.now ≤ most_scripts }
-    ensures ok { IfOk result (λ ss. IfSome (S.held shelf.old) (λ files. ScriptsCome files (program_seen program.now) 1 (texts names.now) (Ok (scripts_seen ss.items)))) }
-    ensures sessions { IfOk result (λ ss. IsTrue (list_all (is_of_relations program.now.decls) (scripts_seen ss.items))) }
-    ensures few { IfOk result (λ ss. length ss.items ≤ most_scripts) }
-    ensures err { IfErr result (λ status. ScriptsStop (S.held shelf.old) (program_seen program.now) (texts names.now) (S.faults shelf.old) (S.faults shelf.new) status) }
+    requires { length names.now ≤ max_scripts }
+    ensures ok { IfOk result
+        (λ ss. IfSome (S.held shelf.old)
+        (λ files. ScriptsCome files (program_seen program.now) 1 (texts names.now)
+        (Ok (scripts_seen ss.items)))) }
+    ensures sessions { IfOk result
+        (λ ss. IsTrue (list_all (is_of_relations program.now.decls) (scripts_seen ss.items))) }
+    ensures few { IfOk result (λ ss. length ss.items ≤ max_scripts) }
+    ensures err { IfErr result
+        (λ status. ScriptsStop (S.held shelf.old) (program_seen program.now) (texts names.now)
+        (S.faults shelf.old) (S.faults shelf.new) status) }
     ensures held { S.held shelf.new ≡ S.held shelf.old }
     ensures later { S.faults shelf.old ≤ S.faults shelf.new }
 {
@@ -101,10 +120,17 @@ fn load_script<S: Shelf>(
     program: &Program,
 ) -> Result<Script, Status>
     requires some { 1 ≤ number }
-    requires few { number ≤ most_scripts }
-    ensures ok { IfOk result (λ s. IfSome (S.held shelf.old) (λ files. ScriptComes files (program_seen program.now) number name.now (Ok (script_seen s)))) }
-    ensures session { IfOk result (λ s. IsTrue (is_of_relations program.now.decls (script_seen s))) }
-    ensures err { IfErr result (λ status. Stops (S.held shelf.old) (λ files status. ScriptComes files (program_seen program.now) number name.now (Err status)) (1 + number) (S.faults shelf.old) (S.faults shelf.new) status) }
+    requires few { number ≤ max_scripts }
+    ensures ok { IfOk result
+        (λ s. IfSome (S.held shelf.old)
+        (λ files. ScriptComes files (program_seen program.now) number name.now
+        (Ok (script_seen s)))) }
+    ensures session { IfOk result
+        (λ s. IsTrue (is_of_relations program.now.decls (script_seen s))) }
+    ensures err { IfErr result
+        (λ status. Stops (S.held shelf.old)
+        (λ files status. ScriptComes files (program_seen program.now) number name.now (Err status))
+        (1 + number) (S.faults shelf.old) (S.faults shelf.new) status) }
     ensures held { S.held shelf.new ≡ S.held shelf.old }
     ensures later { S.faults shelf.old ≤ S.faults shelf.new }
 {
@@ -128,13 +154,16 @@ fn fetch_text<S: Shelf>(
     name: &str,
     word: usize,
 ) -> Result<Vec<u8>, Status>
-    ensures ok { IfOk result (λ bytes. IfSome (S.held shelf.old) (λ files. HoldsText files name.now bytes.items)) }
-    ensures limit { IfOk result (λ bytes. length bytes.items ≤ text_limit) }
-    ensures err { IfErr result (λ status. FetchStops (S.held shelf.old) name.now word (S.faults shelf.old) (S.faults shelf.new) status) }
+    ensures ok { IfOk result
+        (λ bytes. IfSome (S.held shelf.old) (λ files. HoldsText files name.now bytes.items)) }
+    ensures limit { IfOk result (λ bytes. length bytes.items ≤ max_text_bytes) }
+    ensures err { IfErr result
+        (λ status. FetchStops (S.held shelf.old) name.now word (S.faults shelf.old)
+        (S.faults shelf.new) status) }
     ensures held { S.held shelf.new ≡ S.held shelf.old }
     ensures later { S.faults shelf.old ≤ S.faults shelf.new }
 {
-    match shelf.fetch(alloc, name, MAX_TEXT) {
+    match shelf.fetch(alloc, name, MAX_TEXT_BYTES) {
         Ok(bytes) => Ok(bytes),
         Err(FetchStop::Absent) => Err(Status::NoFile(word)),
         Err(FetchStop::TooLong) => Err(Status::TooLong(word)),

@@ -1,4 +1,4 @@
-// How a run ended.
+//! How a run ended.
 ghost use Rattle.std.specs.Prelude.{◌≡◌};
 ghost use Rattle.ml_run.specs.declared.status.Status.TheVariants as run_status;
 
@@ -31,11 +31,11 @@ pub enum Status {
 }
 
 impl Status {
-    ghost use Rattle.ml_run.specs.Status.{number_of};
+    ghost use Rattle.ml_run.specs.Status.{exit_number};
 
     /// The number that the program ends with. It takes no memory.
     pub fn number(&self) -> u8
-        ensures { result ≡ number_of self.now }
+        ensures { result ≡ exit_number self.now }
     {
         match *self {
             Status::Done => 0,

@@ -1,4 +1,4 @@
-// What no clause says: worked runs, and that none ends for want of memory while there is plenty.
+//! What no clause says: worked runs, and that none ends for want of memory while there is plenty.
 ghost use Rattle.std.specs.Prelude.{None};
 
 use crate::{Status, line_of, serial};
@@ -61,7 +61,8 @@ const RUNS: [(&[u8], &[u8], &[u8]); 14] = [
     (
         b":- relation(t/3). t(f(a,[1,2]),'B c',-7). t(mod,x,y).",
         b"?- t(f(A,[H|T]),N,_). ?- t(mod,_,_).",
-        b"session 1 committed\ngoal 1\n  A = a, H = 1, T = [2], N = 'B c'\n  1 answers\ngoal 2\n  true\n  1 answers\n",
+        b"session 1 committed\ngoal 1\n  A = a, H = 1, T = [2], N = 'B c'\n  1 answers\n\
+goal 2\n  true\n  1 answers\n",
     ),
     (RULES, b":- budget(3). ?- p(X).", PRINTED),
     (
@@ -72,13 +73,15 @@ const RUNS: [(&[u8], &[u8], &[u8]); 14] = [
     (
         RULES,
         b":- budget(4). ?- p(X). ?- p(Y).",
-        b"session 1 failed at goal 2\ngoal 1\n  X = 1\n  X = 2\n  2 answers\ngoal 2\n  error resource_error(inferences)\n",
+        b"session 1 failed at goal 2\ngoal 1\n  X = 1\n  X = 2\n  2 answers\n\
+goal 2\n  error resource_error(inferences)\n",
     ),
     (RULES, b"", b"session 1 committed\n"),
     (
         b":- relation(a/1). :- relation(b/2, [2]). b(x,2). a(z). b(y,1).",
         b"?- a(_). ?- b(X,N).",
-        b"session 1 committed\ngoal 1\n  true\n  1 answers\ngoal 2\n  X = y, N = 1\n  X = x, N = 2\n  2 answers\n",
+        b"session 1 committed\ngoal 1\n  true\n  1 answers\n\
+goal 2\n  X = y, N = 1\n  X = x, N = 2\n  2 answers\n",
     ),
 ];
 

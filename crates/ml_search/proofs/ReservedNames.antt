@@ -1,15 +1,17 @@
 -- The names that are reserved, by the number of arguments, are what the search's tables say.
-use Rattle.std.proofs.Common.{◌≡◌, ◌≤◌, ℕ, suc, ◌+◌, ◌-◌, Bool, true, false, ◌||◌, ◌&&◌, ◌==◌, List, [], ◌∷◌, ◌++◌, map, Some, None, refl, sym, ap, ◌∙◌, cond, arith}
+use Rattle.std.proofs.Common.{◌≡◌, ◌≤◌, ℕ, suc, ◌-◌, Bool, true, false, ◌||◌, ◌&&◌, ◌==◌, List, [], ◌∷◌, ◌++◌, Some, None, refl, sym, ap, ◌∙◌, cond}
+use Rattle.std.proofs.Common.{arith}
 use Rattle.std.specs.Prelude.{is_some, Option, nat_lt}
-use Rattle.std.specs.List.{list_all, list_any}
+use Rattle.std.specs.List.{list_all}
 use Rattle.std.specs.Str.{bytes_eq}
 use Rattle.std.proofs.lemmas.Bool.{and_parts, ltb-true, ne_eqb}
 use Rattle.std.proofs.lemmas.List.Folds.{list_any-append}
-use Rattle.ml_search.specs.Names.{named}
-use Rattle.ml_search.specs.Builtins.{with, or_else, type_tests, order_tests, value_tests, built_2, built_3, tested, compared, builtin, is_plain}
-use Rattle.ml_search.specs.Evaluate.{evaluated}
-use Rattle.ml_search.specs.Known.{is_reserved, has_name, control_names, store_names}
-use Rattle.ml_search.specs.Reserved.{is_among, names_of, of_arity, reserved_0, reserved_1, reserved_2, reserved_3}
+use Rattle.ml_search.specs.Names.{look_up}
+use Rattle.ml_search.specs.Builtins.{with, or_else, type_tests, order_tests, value_tests, builtins_2, builtins_3, test_result, compare_values}
+use Rattle.ml_search.specs.Builtins.{is_plain}
+use Rattle.ml_search.specs.Evaluate.{evaluate}
+use Rattle.ml_search.specs.Procedures.{is_reserved, has_name, control_names, store_names}
+use Rattle.ml_search.specs.inside.Reserved.{is_among, names_of, of_arity, reserved_names_0, reserved_names_1, reserved_names_2, reserved_names_3}
 use Rattle.ml_term.specs.Order.{tree_cmp}
 use Rattle.ml_term.specs.Tree.{Tree, variable}
 
@@ -26,15 +28,17 @@ arity_is n (e ∷ es) f =
     ∙ ap (λ c. cond (e.1 == n) (bytes_eq e.0 f || c) c) (arity_is n es f)
     ∙ inside (e.1 == n)
   where
-    inside : (b : Bool) → cond b (bytes_eq e.0 f || is_among (of_arity n es) f) (is_among (of_arity n es) f) ≡ is_among (cond b (e.0 ∷ of_arity n es) (of_arity n es)) f
+    inside : (b : Bool) →
+        cond b (bytes_eq e.0 f || is_among (of_arity n es) f) (is_among (of_arity n es) f) ≡ is_among (cond b (e.0 ∷ of_arity n es) (of_arity n es)) f
     inside true = refl
     inside false = refl
 
-table_is : {A B : Type 0} (g : A → B) (es : List (List ℕ × A)) (f : List ℕ) → is_some (with g (named es f)) ≡ is_among (names_of es) f
+table_is : {A B : Type 0} (g : A → B) (es : List (List ℕ × A)) (f : List ℕ) → is_some (with g (look_up es f)) ≡ is_among (names_of es) f
 table_is g [] f = refl
 table_is g (e ∷ es) f = found (table_is g es f) (bytes_eq e.0 f)
   where
-    found : is_some (with g (named es f)) ≡ is_among (names_of es) f → (b : Bool) → is_some (with g (cond b (Some e.1) (named es f))) ≡ (b || is_among (names_of es) f)
+    found : is_some (with g (look_up es f)) ≡ is_among (names_of es) f → (b : Bool) →
+        is_some (with g (cond b (Some e.1) (look_up es f))) ≡ (b || is_among (names_of es) f)
     found h true = refl
     found h false = h
 
@@ -62,45 +66,48 @@ in_turn : (a b c : Bool) → ((a || b) || c) ≡ (a || (b || c))
 in_turn true b c = refl
 in_turn false b c = refl
 
-pub none_reserved : (f : List ℕ) → is_among reserved_0 f ≡ is_reserved f 0
-none_reserved f = sym (by_tables f 0 ∙ without_any (is_among reserved_0 f))
+pub none_reserved : (f : List ℕ) → is_among reserved_names_0 f ≡ is_reserved f 0
+none_reserved f = sym (by_tables f 0 ∙ without_any (is_among reserved_names_0 f))
 
-pub one_reserved : (f : List ℕ) → is_among reserved_1 f ≡ is_reserved f 1
+pub one_reserved : (f : List ℕ) → is_among reserved_names_1 f ≡ is_reserved f 1
 one_reserved f =
     let controls = is_among (of_arity 1 control_names) f in
     let stores = is_among (of_arity 1 store_names) f in
     in_both (of_arity 1 control_names) (of_arity 1 store_names ++ names_of type_tests) f
     ∙ ap (λ b. controls || b) (in_both (of_arity 1 store_names) (names_of type_tests) f)
     ∙ sym (in_turn controls stores (is_among (names_of type_tests) f))
-    ∙ sym (by_tables f 1 ∙ ap (λ b. (controls || stores) || b) (table_is (λ (p : Tree → Bool). tested (p (variable 0))) type_tests f))
+    ∙ sym (by_tables f 1 ∙ ap (λ b. (controls || stores) || b) (table_is (λ (p : Tree → Bool). test_result (p (variable 0))) type_tests f))
 
-two_plain : (f : List ℕ) → is_plain f 2 ≡ (is_among (names_of built_2) f || (is_among (names_of order_tests) f || is_among (names_of value_tests) f))
+two_plain : (f : List ℕ) → is_plain f 2 ≡ (is_among (names_of builtins_2) f || (is_among (names_of order_tests) f || is_among (names_of value_tests) f))
 two_plain f =
     let t = variable 0 in
     let u = variable 1 in
-    let a = with (λ d. d t u) (named built_2 f) in
-    let b = with (λ p. tested (p (tree_cmp t u))) (named order_tests f) in
-    let c = with (λ p. compared p (evaluated t) (evaluated u)) (named value_tests f) in
+    let a = with (λ d. d t u) (look_up builtins_2 f) in
+    let b = with (λ p. test_result (p (tree_cmp t u))) (look_up order_tests f) in
+    let c = with (λ p. compare_values p (evaluate t) (evaluate u)) (look_up value_tests f) in
     some_of_either a (or_else b c)
     ∙ ap (λ x. is_some a || x) (some_of_either b c)
-    ∙ ap (λ x. x || (is_some b || is_some c)) (table_is (λ d. d t u) built_2 f)
-    ∙ ap (λ x. is_among (names_of built_2) f || (x || is_some c)) (table_is (λ p. tested (p (tree_cmp t u))) order_tests f)
-    ∙ ap (λ x. is_among (names_of built_2) f || (is_among (names_of order_tests) f || x)) (table_is (λ p. compared p (evaluated t) (evaluated u)) value_tests f)
+    ∙ ap (λ x. x || (is_some b || is_some c)) (table_is (λ d. d t u) builtins_2 f)
+    ∙ ap (λ x. is_among (names_of builtins_2) f || (x || is_some c)) (table_is (λ p. test_result (p (tree_cmp t u))) order_tests f)
+    ∙ ap (λ x. is_among (names_of builtins_2) f || (is_among (names_of order_tests) f || x))
+    (table_is (λ p. compare_values p (evaluate t) (evaluate u)) value_tests f)
 
-pub two_reserved : (f : List ℕ) → is_among reserved_2 f ≡ is_reserved f 2
+pub two_reserved : (f : List ℕ) → is_among reserved_names_2 f ≡ is_reserved f 2
 two_reserved f =
     let controls = is_among (of_arity 2 control_names) f in
-    in_both (of_arity 2 control_names) (names_of built_2 ++ names_of order_tests ++ names_of value_tests) f
-    ∙ ap (λ b. controls || b) (in_both (names_of built_2) (names_of order_tests ++ names_of value_tests) f)
-    ∙ ap (λ b. controls || (is_among (names_of built_2) f || b)) (in_both (names_of order_tests) (names_of value_tests) f)
+    in_both (of_arity 2 control_names) (names_of builtins_2 ++ names_of order_tests ++ names_of value_tests) f
+    ∙ ap (λ b. controls || b) (in_both (names_of builtins_2) (names_of order_tests ++ names_of value_tests) f)
+    ∙ ap (λ b. controls || (is_among (names_of builtins_2) f || b)) (in_both (names_of order_tests) (names_of value_tests) f)
     ∙ sym (ap (λ b. controls || b) (two_plain f))
     ∙ sym (by_tables f 2 ∙ without_more controls (is_plain f 2))
 
-pub three_reserved : (f : List ℕ) → is_among reserved_3 f ≡ is_reserved f 3
+pub three_reserved : (f : List ℕ) → is_among reserved_names_3 f ≡ is_reserved f 3
 three_reserved f =
     let controls = is_among (of_arity 3 control_names) f in
-    in_both (of_arity 3 control_names) (names_of built_3) f
-    ∙ sym (by_tables f 3 ∙ without_more controls (is_plain f 3) ∙ ap (λ b. controls || b) (table_is (λ (d : Tree → Tree → Tree → ℕ → _). d (variable 0) (variable 1) (variable 2)) built_3 f))
+    in_both (of_arity 3 control_names) (names_of builtins_3) f
+    ∙ sym
+    (by_tables f 3 ∙ without_more controls (is_plain f 3)
+    ∙ ap (λ b. controls || b) (table_is (λ (d : Tree → Tree → Tree → ℕ → _). d (variable 0) (variable 1) (variable 2)) builtins_3 f))
 
 not_named : (es : List (List ℕ × ℕ)) (f : List ℕ) (n : ℕ) → list_all (λ e. nat_lt e.1 4) es ≡ true → 4 ≤ n → has_name es f n ≡ false
 not_named [] f n all high = refl

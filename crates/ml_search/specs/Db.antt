@@ -1,5 +1,8 @@
--- The lists of a store: for each declaration the list of its items. The code keeps nested pages, flags and undo lists.
-use Rattle.std.specs.Prelude.{ℕ, zero, suc, ◌+◌, nat_le, Bool, true, false, ◌&&◌, not, List, [], ◌∷◌, length, map, take, drop, Option, Some, None, cond, codes, unwrap_or, slice_get}
+-- The lists of a store: for each declaration the list of its items. The code keeps nested pages,
+-- flags and undo lists.
+use Rattle.std.specs.Prelude.{ℕ, zero, suc, ◌+◌, nat_le, Bool, true, false, ◌&&◌, not, List, []}
+use Rattle.std.specs.Prelude.{◌∷◌, length, map, take, drop, Option, Some, None, codes, unwrap_or}
+use Rattle.std.specs.Prelude.{slice_get, if◌then◌else◌}
 use Rattle.std.specs.List.{list_all, list_any}
 use Rattle.std.specs.declared.cmp.Ordering.{Ordering}
 use Rattle.std.specs.declared.cmp.Ordering.TheVariants.{Less, Equal, Greater}
@@ -12,11 +15,12 @@ use Rattle.ml_term.specs.Keys.{tuple_cmp, numbers_from}
 use Rattle.ml_term.specs.declared.declaration.Decl.{Decl}
 use Rattle.ml_term.specs.declared.declaration.Kind.{Kind}
 use Rattle.ml_term.specs.declared.declaration.Kind.TheVariants.{Relation, Clauses}
-use Rattle.ml_search.specs.Limits.{most_bytes}
+use Rattle.ml_search.specs.Limits.{max_item_bytes}
 use Rattle.ml_search.specs.Program.{is_of, true_body}
 use Rattle.ml_search.specs.Bodies.{is_callable}
 
--- The place in the history, from 1, of the entry that committed an item; loaded items have place 0. `mine` stands for no entry yet.
+-- The place in the history, from 1, of the entry that committed an item; loaded items have place 0.
+-- `mine` stands for no entry yet.
 pub data Place : Type 0 where
   at : ℕ → Place
   mine : Place
@@ -89,29 +93,34 @@ body_of t = true_body
 -- the item with an id, if there is one
 abbrev pub with_id : Id → List Item → Option Item
 with_id i [] = None
-with_id i (j ∷ js) = cond (is_same_id j.id i) (Some j) (with_id i js)
+with_id i (j ∷ js) = if is_same_id j.id i then Some j else with_id i js
 
 -- the terms of a list, in order
 abbrev pub terms : List Item → List Tree
 terms = map (λ i. i.term)
 
 -- the items of a loaded list: their numbers are their places in it
-abbrev pub loaded_from : ℕ → List Tree → List Item
-loaded_from n [] = []
-loaded_from n (t ∷ ts) = record { id = record { place = at 0; change = n }; term = t } ∷ loaded_from (1 + n) ts
+abbrev pub load_list_from : ℕ → List Tree → List Item
+load_list_from n [] = []
+load_list_from n (t ∷ ts) =
+    record { id = record { place = at 0; change = n }; term = t } ∷ load_list_from (1 + n) ts
 
 -- the lists as they are loaded
-abbrev pub loaded : List (List Tree) → Db
-loaded = map (loaded_from 0)
+abbrev pub load_lists : List (List Tree) → Db
+load_lists = map (load_list_from 0)
 
 -- a ground term of the relation, not too long
 abbrev pub is_tuple : Decl → Tree → Bool
-is_tuple d t = is_valid t && is_of d.pred.name d.pred.arity t && is_ground t && nat_le (length (bytes_of t)) most_bytes
+is_tuple d t =
+    is_valid t && is_of d.pred.name d.pred.arity t && is_ground t
+    && nat_le (length (bytes_of t)) max_item_bytes
 
--- `:-(Head, Body)` with a head of the predicate and a callable body, its variables numbered from 0 by first place, not too long
+-- `:-(Head, Body)` with a head of the predicate and a callable body, its variables numbered from 0
+-- by first place, not too long
 abbrev pub is_stored_clause : Decl → Tree → Bool
 is_stored_clause d t =
-    is_valid t && is_of (codes ":-") 2 t && is_of d.pred.name d.pred.arity (head_of t) && is_callable (body_of t) && is_numbered t && nat_le (length (bytes_of t)) most_bytes
+    is_valid t && is_of (codes ":-") 2 t && is_of d.pred.name d.pred.arity (head_of t)
+    && is_callable (body_of t) && is_numbered t && nat_le (length (bytes_of t)) max_item_bytes
 
 -- whether a declaration's list may hold a term
 abbrev pub is_allowed : Decl → Tree → Bool
@@ -144,9 +153,13 @@ abbrev pub ids_differ : List Id → Bool
 ids_differ [] = true
 ids_differ (a ∷ rest) = not (list_any (is_same_id a) rest) && ids_differ rest
 
--- whether no id stands twice, and for some n the first n ids, those put first, fall, and the others rise
+-- whether no id stands twice, and for some n the first n ids, those put first, fall, and the others
+-- rise
 abbrev pub is_in_clause_order : List Id → Bool
-is_in_clause_order ids = ids_differ ids && list_any (λ n. ids_fall (take n ids) && ids_rise (drop n ids)) (numbers_from 0 (1 + length ids))
+is_in_clause_order ids =
+    ids_differ ids
+    && list_any (λ n. ids_fall (take n ids) && ids_rise (drop n ids))
+    (numbers_from 0 (1 + length ids))
 
 -- whether a list is one that a declaration may have
 abbrev pub is_list_of : Decl → List Item → Bool

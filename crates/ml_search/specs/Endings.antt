@@ -1,9 +1,11 @@
--- How the entry of a session ends. The code keeps it beside the entry's lines; here it is found in what the session gave.
+-- How the entry of a session ends. The code keeps it beside the entry's lines; here it is found in
+-- what the session gave.
 use Rattle.std.specs.Prelude.{Option, Some, None}
 use Rattle.ml_search.specs.declared.ending.Ending.{Ending}
 use Rattle.ml_search.specs.declared.ending.Ending.TheVariants as E
 use Rattle.ml_search.specs.declared.ending.EntryEnding.{EntryEnding}
-use Rattle.ml_search.specs.declared.ending.EntryEnding.TheVariants.{Committed, Aborted, Refused, Failed, OutOfMemory}
+use Rattle.ml_search.specs.declared.ending.EntryEnding.TheVariants.{Committed, Aborted, Refused}
+use Rattle.ml_search.specs.declared.ending.EntryEnding.TheVariants.{Failed, OutOfMemory}
 use Rattle.ml_search.specs.Session.{Session}
 use Rattle.ml_search.specs.History.{Entry}
 

@@ -1,38 +1,31 @@
--- The limits of terms, changes and answers. The code's constants are these numbers.
+-- The limits of items, scripts, programs and sessions, as numbers. `limits_of_sessions` says that
+-- the code's constants are these.
 use Rattle.std.specs.Prelude.{ℕ}
 
--- nodes of a term that is printed, called, raised or passed to the store
-abbrev pub most_nodes : ℕ
-most_nodes = 4096
+-- the most canonical bytes of a stored item
+abbrev pub max_item_bytes : ℕ
+max_item_bytes = 4096
 
--- canonical bytes of a stored item
-abbrev pub most_bytes : ℕ
-most_bytes = 4096
+-- the most changes of a session
+abbrev pub max_changes : ℕ
+max_changes = 20000
 
--- changes of a session
-abbrev pub most_changes : ℕ
-most_changes = 20000
+-- the most bytes of a session's answer lines, with their spaces and line feeds
+abbrev pub max_answer_bytes : ℕ
+max_answer_bytes = 1048576
 
--- bytes of a session's answer lines, with their spaces and line feeds
-abbrev pub most_answer_bytes : ℕ
-most_answer_bytes = 1048576
-
--- inferences of a session at the most
-abbrev pub most_inferences : ℕ
-most_inferences = 200000
+-- the most inferences of a session
+abbrev pub max_inferences : ℕ
+max_inferences = 200000
 
 -- inferences of a session whose script gives no budget
-abbrev pub given_inferences : ℕ
-given_inferences = 20000
+abbrev pub default_inferences : ℕ
+default_inferences = 20000
 
--- the arity of a compound at the most
-abbrev pub most_arguments : ℕ
-most_arguments = 255
+-- the most goals of a script
+abbrev pub max_goals : ℕ
+max_goals = 4294967294
 
--- goals of a script
-abbrev pub most_goals : ℕ
-most_goals = 4294967294
-
--- declarations of a program
-abbrev pub most_declarations : ℕ
-most_declarations = 4294967295
+-- the most declarations of a program
+abbrev pub max_declarations : ℕ
+max_declarations = 4294967295

@@ -1,5 +1,6 @@
--- Lists as terms: cells `'.'(Head, Tail)` that end in `[]`. The code walks from cell to cell; here these are recursions on trees.
-use Rattle.std.specs.Prelude.{Bool, false, List, [], ◌∷◌, codes, cond}
+-- Lists as terms: cells `'.'(Head, Tail)` that end in `[]`. The code walks from cell to cell; here
+-- these are recursions on trees.
+use Rattle.std.specs.Prelude.{Bool, false, List, [], ◌∷◌, codes, if◌then◌else◌}
 use Rattle.std.specs.Str.{bytes_eq}
 use Rattle.ml_term.specs.Tree.{Tree, atom, compound, compound_2, no_trees, tree}
 use Rattle.ml_search.specs.TypeTests.{is_variable}
@@ -11,12 +12,16 @@ list_term (t ∷ ts) = compound_2 (codes ".") t (list_term ts)
 
 -- what stands behind the last cell of a term
 abbrev pub list_end : Tree → Tree
-list_end (compound f (tree t (tree u no_trees))) = cond (bytes_eq f (codes ".")) (list_end u) (compound_2 f t u)
+list_end (compound f (tree t (tree u no_trees))) =
+    if bytes_eq f (codes ".") then list_end u
+    else compound_2 f t u
 list_end t = t
 
 -- the heads of the cells of a term
 abbrev pub elements : Tree → List Tree
-elements (compound f (tree t (tree u no_trees))) = cond (bytes_eq f (codes ".")) (t ∷ elements u) []
+elements (compound f (tree t (tree u no_trees))) =
+    if bytes_eq f (codes ".") then t ∷ elements u
+    else []
 elements t = []
 
 -- whether a term is `[]`

@@ -1,6 +1,8 @@
--- The lists with which a history begins, from items with the numbers of their declarations, in the order in which they are given. The code puts the items
--- into files; here tuples are put in order one after another.
-use Rattle.std.specs.Prelude.{ℕ, ◌+◌, ◌==◌, Bool, List, [], ◌∷◌, Option, Some, None, cond, slice_get}
+-- The lists with which a history begins, from items with the numbers of their declarations, in the
+-- order in which they are given. The code puts the items into files; here tuples are put in order
+-- one after another.
+use Rattle.std.specs.Prelude.{ℕ, ◌+◌, ◌==◌, Bool, List, [], ◌∷◌, Option, Some, None, slice_get}
+use Rattle.std.specs.Prelude.{if◌then◌else◌}
 use Rattle.std.specs.List.{filter_map, list_all}
 use Rattle.std.specs.declared.cmp.Ordering.{Ordering}
 use Rattle.std.specs.declared.cmp.Ordering.TheVariants.{Less, Equal, Greater}
@@ -9,7 +11,7 @@ use Rattle.ml_term.specs.Keys.{tuple_cmp}
 use Rattle.ml_term.specs.declared.declaration.Decl.{Decl}
 use Rattle.ml_term.specs.declared.declaration.Kind.{Kind}
 use Rattle.ml_term.specs.declared.declaration.Kind.TheVariants.{Relation, Clauses}
-use Rattle.ml_search.specs.Db.{Db, is_allowed, loaded}
+use Rattle.ml_search.specs.Db.{Db, is_allowed, load_lists}
 use Rattle.ml_search.specs.Program.{holds_of}
 
 -- whether each item is one that the list of its declaration may have
@@ -36,7 +38,7 @@ abbrev pub terms_for : ℕ → List (ℕ × Tree) → List Tree
 terms_for d items = filter_map term_for items
   where
     term_for : ℕ × Tree → Option Tree
-    term_for e = cond (e.0 == d) (Some e.1) None
+    term_for e = if e.0 == d then Some e.1 else None
 
 -- a relation's list is in key order, and a list of clauses as it is given
 abbrev pub first_list : Kind → List ℕ → List Tree → List Tree
@@ -46,7 +48,8 @@ first_list Clauses keys ts = ts
 -- the lists of the declarations from a number on
 abbrev pub first_lists_from : ℕ → List Decl → List (ℕ × Tree) → List (List Tree)
 first_lists_from d [] items = []
-first_lists_from d (q ∷ qs) items = first_list q.kind q.keys (terms_for d items) ∷ first_lists_from (1 + d) qs items
+first_lists_from d (q ∷ qs) items =
+    first_list q.kind q.keys (terms_for d items) ∷ first_lists_from (1 + d) qs items
 
 -- the first list of each declaration
 abbrev pub first_lists : List Decl → List (ℕ × Tree) → List (List Tree)
@@ -54,4 +57,4 @@ first_lists decls items = first_lists_from 0 decls items
 
 -- the lists with which a history begins
 abbrev pub first_db : List Decl → List (ℕ × Tree) → Db
-first_db decls items = loaded (first_lists decls items)
+first_db decls items = load_lists (first_lists decls items)

@@ -1,5 +1,7 @@
--- What is run: a program, and the goals and scripts of sessions. The code keeps tables of compiled clauses; here a program is two lists.
-use Rattle.std.specs.Prelude.{ℕ, suc, ◌==◌, Bool, true, false, ◌&&◌, not, List, [], ◌∷◌, find, Option, Some, None, option_map, cond, codes}
+-- What is run: a program, and the goals and scripts of sessions. The code keeps tables of compiled
+-- clauses; here a program is two lists.
+use Rattle.std.specs.Prelude.{ℕ, suc, ◌==◌, Bool, true, false, ◌&&◌, not, List, [], ◌∷◌, find}
+use Rattle.std.specs.Prelude.{Option, Some, None, option_map, codes, if◌then◌else◌}
 use Rattle.std.specs.List.{filter}
 use Rattle.std.specs.Str.{bytes_eq}
 use Rattle.ml_term.specs.Tree.{Tree, variable, integer, atom, compound, compound_2, arity}
@@ -12,7 +14,8 @@ pub record Clause : Type 0 where
   pub head : Tree
   pub body : Tree
 
--- the declarations in their order, and the clauses of all predicates that aren't declared, in the order of the text
+-- the declarations in their order, and the clauses of all predicates that aren't declared, in the
+-- order of the text
 pub record Program : Type 0 where
   pub decls : List Decl
   pub clauses : List Clause
@@ -67,7 +70,7 @@ has_predicate f n d = bytes_eq d.pred.name f && (d.pred.arity == n)
 -- the place of a predicate's declaration, from 0
 abbrev pub place_of : List Decl → List ℕ → ℕ → Option ℕ
 place_of [] f n = None
-place_of (d ∷ ds) f n = cond (has_predicate f n d) (Some 0) (option_map suc (place_of ds f n))
+place_of (d ∷ ds) f n = if has_predicate f n d then Some 0 else option_map suc (place_of ds f n)
 
 -- the declaration of a predicate
 abbrev pub declaration_of : List Decl → List ℕ → ℕ → Option Decl

@@ -2,12 +2,16 @@
 use Rattle.std.specs.Prelude.{List, map}
 use Rattle.ml_term.specs.Seen.{seen}
 use Rattle.ml_search.specs.declared.operation.Op.{Op}
-use Rattle.ml_search.specs.declared.operation.Op.TheVariants.{Open, Next, Insert, Delete, Assertz, Asserta, DeleteAt}
+use Rattle.ml_search.specs.declared.operation.Op.TheVariants.{Open, Next, Insert, Delete, Assertz}
+use Rattle.ml_search.specs.declared.operation.Op.TheVariants.{Asserta, DeleteAt}
 use Rattle.ml_search.specs.declared.operation.Reply as R
-use Rattle.ml_search.specs.declared.operation.Reply.TheVariants.{Cursor, Item, End, Added, Present, Removed, Absent, Full}
+use Rattle.ml_search.specs.declared.operation.Reply.TheVariants.{Cursor, Item, End, Added, Present}
+use Rattle.ml_search.specs.declared.operation.Reply.TheVariants.{Removed, Absent, Full}
 use Rattle.ml_search.specs.declared.change.Change as C
 use Rattle.ml_search.specs.Changes.{Change}
-use Rattle.ml_search.specs.Operations.{Operation, opens, next, insert, delete, assertz, asserta, delete_at, Reply, cursor, item, no_item, added, present, removed, absent, full, Log}
+use Rattle.ml_search.specs.Operations.{Operation, opens, next, insert, delete, assertz, asserta}
+use Rattle.ml_search.specs.Operations.{delete_at, Reply, cursor, item, no_item, added, present}
+use Rattle.ml_search.specs.Operations.{removed, absent, full, Log}
 
 -- the operation that an `Op` is
 abbrev pub operation_seen : Op → Operation

@@ -1,6 +1,8 @@
--- A session: the goals of a script one after another, with one budget, over the lists as they stood before it. The code may hold a session's changes
--- and take them back; here a session that doesn't commit gives the lists that it began with.
-use Rattle.std.specs.Prelude.{ℕ, ◌+◌, nat_lt, Bool, true, ◌==◌, not, List, [], ◌∷◌, ◌++◌, map, length, Option, Some, None, cond, codes}
+-- A session: the goals of a script one after another, with one budget, over the lists as they stood
+-- before it. The code may hold a session's changes and take them back; here a session that doesn't
+-- commit gives the lists that it began with.
+use Rattle.std.specs.Prelude.{ℕ, ◌+◌, nat_lt, Bool, true, ◌==◌, not, List, [], ◌∷◌, ◌++◌, map}
+use Rattle.std.specs.Prelude.{length, Option, Some, None, codes, if◌then◌else◌}
 use Rattle.std.specs.List.{filter, list_any}
 use Rattle.std.specs.Option.{option_or}
 use Rattle.ml_term.specs.Tree.{Tree, variable, variables, width}
@@ -8,17 +10,25 @@ use Rattle.ml_term.specs.Decimal.{decimal_text}
 use Rattle.ml_term.specs.Text.{text_of}
 use Rattle.ml_search.specs.declared.ending.Ending.{Ending}
 use Rattle.ml_search.specs.declared.ending.Ending.TheVariants.{Committed, Aborted, Refused, Failed}
-use Rattle.ml_search.specs.Limits.{most_answer_bytes}
+use Rattle.ml_search.specs.Limits.{max_answer_bytes}
 use Rattle.ml_search.specs.Program.{Program, Goal, Last, commit, abort, unless, Script}
-use Rattle.ml_search.specs.Errors.{resource_error, is_too_large, formal}
+use Rattle.ml_search.specs.Errors.{resource_error, is_too_large, formal_term}
 use Rattle.ml_search.specs.Db.{Db}
 use Rattle.ml_search.specs.Changes.{Change, Lists}
-use Rattle.ml_search.specs.Table.{End, finished, ball, exhausted}
+use Rattle.ml_search.specs.Actions.{End, end_of_answers, ball, out_of_inferences}
 use Rattle.ml_search.specs.Search.{Outcome, search_of}
+
+-- the byte that ends a line
+abbrev pub line_feed : ℕ
+line_feed = 10
+
+-- the byte with which a name begins whose variable isn't shown
+abbrev pub underscore : ℕ
+underscore = 95
 
 -- a line with its line feed
 abbrev pub line : List ℕ → List ℕ
-line text = text ++ 10 ∷ []
+line text = text ++ line_feed ∷ []
 
 -- a variable of a goal is shown unless its name begins with `_`
 abbrev pub is_shown : List ℕ × ℕ → Bool
@@ -26,53 +36,60 @@ is_shown e = is_shown_name e.0
   where
     is_shown_name : List ℕ → Bool
     is_shown_name [] = true
-    is_shown_name (b ∷ bs) = not (b == 95)
+    is_shown_name (b ∷ bs) = not (b == underscore)
 
 -- the shown variables of a goal, by first place
-abbrev pub shown : Goal → List (List ℕ × ℕ)
-shown g = filter is_shown g.names
+abbrev pub shown_names : Goal → List (List ℕ × ℕ)
+shown_names g = filter is_shown g.names
 
 -- the search of a goal for the terms of its shown variables
-abbrev pub asked : Program → Goal → Lists → ℕ → Outcome
-asked program g lists left = search_of program g.term (map (λ e. variable e.1) (shown g)) (width g.term) lists left
+abbrev pub goal_search : Program → Goal → Lists → ℕ → Outcome
+goal_search program g lists left =
+    search_of program g.term (map (λ e. variable e.1) (shown_names g)) (width g.term) lists left
 
--- `NAME = TERM` for each shown variable, with `, ` between; `met` are the variables that the line met before
+-- `NAME = TERM` for each shown variable, with `, ` between; `met` are the variables that the line
+-- met before
 abbrev pub bindings_text : List (List ℕ × ℕ) → List Tree → List ℕ → List ℕ
 bindings_text (e ∷ []) (t ∷ ts) met = e.0 ++ codes " = " ++ text_of t met
-bindings_text (e ∷ es) (t ∷ ts) met = e.0 ++ codes " = " ++ text_of t met ++ codes ", " ++ bindings_text es ts (met ++ variables t)
+bindings_text (e ∷ es) (t ∷ ts) met =
+    e.0 ++ codes " = " ++ text_of t met ++ codes ", " ++ bindings_text es ts (met ++ variables t)
 bindings_text es ts met = codes "true"
 
 -- an answer's line: two spaces, and its terms, or `true` where no variable is shown
 abbrev pub answer_line : Goal → List Tree → List ℕ
-answer_line g ts = line (codes "  " ++ bindings_text (shown g) ts [])
+answer_line g ts = line (codes "  " ++ bindings_text (shown_names g) ts [])
 
--- answer lines, with the number of answer bytes so far, and the term that was raised instead of the next line, if any
-pub record Written : Type 0 where
+-- answer lines, with the number of answer bytes so far, and the term that was raised instead of the
+-- next line, if any
+pub record AnswerLines : Type 0 where
   pub lines : List (List ℕ)
   pub bytes : ℕ
   pub fault : Option Tree
 
 -- one more line before others
-abbrev pub with_line : List ℕ → Written → Written
+abbrev pub with_line : List ℕ → AnswerLines → AnswerLines
 with_line l w = record { lines = l ∷ w.lines; bytes = w.bytes; fault = w.fault }
 
--- The lines of answers. One with a term that is too large, or whose line would pass the limit, ends its goal there.
-abbrev pub written : Goal → List (List Tree) → ℕ → Written
-written g [] bytes = record { lines = []; bytes = bytes; fault = None }
-written g (ts ∷ found) bytes =
-    cond (list_any is_too_large ts) (record { lines = []; bytes = bytes; fault = Some (resource_error (codes "term")) })
-    (cond (nat_lt most_answer_bytes (bytes + length (answer_line g ts))) (record { lines = []; bytes = bytes; fault = Some (resource_error (codes "output")) })
-    (with_line (answer_line g ts) (written g found (bytes + length (answer_line g ts)))))
+-- The lines of answers. One with a term that is too large, or whose line would pass the limit, ends
+-- its goal there.
+abbrev pub answer_lines : Goal → List (List Tree) → ℕ → AnswerLines
+answer_lines g [] bytes = record { lines = []; bytes = bytes; fault = None }
+answer_lines g (ts ∷ found) bytes =
+    if list_any is_too_large ts
+    then record { lines = []; bytes = bytes; fault = Some (resource_error (codes "term")) }
+    else if nat_lt max_answer_bytes (bytes + length (answer_line g ts))
+    then record { lines = []; bytes = bytes; fault = Some (resource_error (codes "output")) }
+    else with_line (answer_line g ts) (answer_lines g found (bytes + length (answer_line g ts)))
 
 -- the term that the end of a search raises
-abbrev pub raised_by : End → Option Tree
-raised_by finished = None
-raised_by (ball t) = Some (formal t)
-raised_by exhausted = Some (resource_error (codes "inferences"))
+abbrev pub error_of_end : End → Option Tree
+error_of_end end_of_answers = None
+error_of_end (ball t) = Some (formal_term t)
+error_of_end out_of_inferences = Some (resource_error (codes "inferences"))
 
 -- what a goal raises: at an answer, or else at the end of its search
-abbrev pub raised_in : Written → Outcome → Option Tree
-raised_in w o = option_or w.fault (raised_by o.end)
+abbrev pub error_of_goal : AnswerLines → Outcome → Option Tree
+error_of_goal w o = option_or w.fault (error_of_end o.end)
 
 -- `goal J`
 abbrev pub goal_line : ℕ → List ℕ
@@ -98,42 +115,47 @@ abbrev pub with_lines : List (List ℕ) → Session → Session
 with_lines ls s = record s { lines = ls ++ s.lines }
 
 -- a session that leaves the lists as they were
-abbrev pub uncommitted : List (List ℕ) → Ending → Db → Session
-uncommitted ls ending db = record { lines = ls; ending = ending; db = db; changes = [] }
+abbrev pub uncommitted_session : List (List ℕ) → Ending → Db → Session
+uncommitted_session ls ending db = record { lines = ls; ending = ending; db = db; changes = [] }
 
 -- a session that leaves the lists as its goals made them
-abbrev pub committed : Lists → Session
-committed lists = record { lines = []; ending = Committed; db = lists.db; changes = lists.made }
+abbrev pub committed_session : Lists → Session
+committed_session lists =
+    record { lines = []; ending = Committed; db = lists.db; changes = lists.made }
 
--- the end of a session that is refused if one more goal has an answer; j is the number behind the last goal's
-abbrev pub decided : Outcome → ℕ → Db → Session
-decided o j before = by o.found (raised_by o.end)
+-- the end of a session that is refused if one more goal has an answer; j is the number behind the
+-- last goal's
+abbrev pub end_unless : Outcome → ℕ → Db → Session
+end_unless o j before = by o.found (error_of_end o.end)
   where
     by : List (List Tree) → Option Tree → Session
-    by (ts ∷ found) raised = uncommitted [] Refused before
-    by [] (Some t) = uncommitted (goal_line j ∷ error_line t ∷ []) (Failed j) before
-    by [] None = committed o.lists
+    by (ts ∷ found) raised = uncommitted_session [] Refused before
+    by [] (Some t) = uncommitted_session (goal_line j ∷ error_line t ∷ []) (Failed j) before
+    by [] None = committed_session o.lists
 
 module _ (program : Program) where
   -- the end of a session whose goals raised nothing; j is the number behind the last goal's
-  abbrev pub concluded : Last → ℕ → Db → Lists → ℕ → Session
-  concluded commit j before lists left = committed lists
-  concluded abort j before lists left = uncommitted [] Aborted before
-  concluded (unless g) j before lists left = decided (asked program g lists left) j before
+  abbrev pub session_end : Last → ℕ → Db → Lists → ℕ → Session
+  session_end commit j before lists left = committed_session lists
+  session_end abort j before lists left = uncommitted_session [] Aborted before
+  session_end (unless g) j before lists left =
+      end_unless (goal_search program g lists left) j before
 
-  -- The goals from number j on, and then the end: `before` are the lists before the session, and so many answer bytes stand before. The first raised
-  -- term ends the session.
-  abbrev pub played : List Goal → Last → ℕ → Db → Lists → ℕ → ℕ → Session
-  played [] last j before lists left bytes = concluded last j before lists left
-  played (g ∷ gs) last j before lists left bytes =
-      let o : Outcome = asked program g lists left in
-      let w : Written = written g o.found bytes in
+  -- The goals from number j on, and then the end: `before` are the lists before the session, and so
+  -- many answer bytes stand before. The first raised term ends the session.
+  abbrev pub session_from : List Goal → Last → ℕ → Db → Lists → ℕ → ℕ → Session
+  session_from [] last j before lists left bytes = session_end last j before lists left
+  session_from (g ∷ gs) last j before lists left bytes =
+      let o : Outcome = goal_search program g lists left in
+      let w : AnswerLines = answer_lines g o.found bytes in
       with_lines (goal_line j ∷ w.lines)
-      (elim (raised_in w o) [
-        | Some t ↦ uncommitted (error_line t ∷ []) (Failed j) before
-        | None ↦ with_lines (count_line (length o.found) ∷ []) (played gs last (1 + j) before o.lists o.left w.bytes)
+      (elim (error_of_goal w o) [
+        | Some t ↦ uncommitted_session (error_line t ∷ []) (Failed j) before
+        | None ↦ with_lines (count_line (length o.found) ∷ [])
+            (session_from gs last (1 + j) before o.lists o.left w.bytes)
       ])
 
   -- the session of a script over some lists
   abbrev pub session : Script → Db → Session
-  session script db = played script.goals script.last 1 db (record { db = db; made = [] }) script.budget 0
+  session script db =
+      session_from script.goals script.last 1 db (record { db = db; made = [] }) script.budget 0

@@ -1,4 +1,5 @@
--- The tests of a term's type. The code looks at a cell of the heap, past bindings; here a term is a tree.
+-- The tests of a term's type. The code looks at a cell of the heap, past bindings; here a term is a
+-- tree.
 use Rattle.std.specs.Prelude.{ℕ, nat_lt, pos, negsuc, Bool, true, false, ◌||◌}
 use Rattle.ml_term.specs.Tree.{Tree, variable, integer, atom, compound}
 

@@ -6,8 +6,9 @@ ghost use Rattle.ml_term.specs.Seen.{seen};
 use ml_term::Term;
 use std::alloc::{AllocError, Global};
 
-/// A clause; a fact has the body `true`. The head is an atom or a compound whose predicate is no control construct and no built-in, the body
-/// is callable, and the variables of both are numbered from 0 by first place.
+/// A clause; a fact has the body `true`. The head is an atom or a compound whose predicate is no
+/// control construct and no built-in, the body is callable, and the variables of both are numbered
+/// from 0 by first place.
 #[derive(Drop)]
 pub struct Clause {
     pub head: Term,

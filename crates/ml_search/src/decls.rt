@@ -1,15 +1,17 @@
 //! The declarations of a program.
-ghost use Rattle.std.specs.Prelude.{◌≡◌, ◌<◌, ◌≤◌, ◌++◌, ◌∷◌, [], IsTrue, IfOk, IfSome, OnOk, OnErr, None, Some, length, slice_get};
+ghost use Rattle.std.specs.Prelude.{◌≡◌, ◌<◌, ◌≤◌, ◌++◌, ◌∷◌, [], IsTrue, IfOk, IfSome, OnOk};
+ghost use Rattle.std.specs.Prelude.{OnErr, None, Some, length, slice_get};
+ghost use Rattle.ml_search.specs.Limits.{max_declarations};
 ghost use Rattle.ml_search.specs.Program.{place_of};
 ghost use Rattle.ml_search.specs.WellFormed.{are_declared_once};
 
-use crate::limits::MOST_DECLARATIONS;
 use indexmap::IndexMap;
 use ml_term::{Decl, Pred};
 use std::alloc::{AllocError, Global};
 use std::marker::Model;
 
-/// Declarations of different predicates in their order, fewer than 4294967296, found by predicate. Contracts see the list.
+/// Declarations of different predicates in their order, at most `MAX_DECLARATIONS`, found by
+/// predicate. Contracts see the list.
 #[derive(Drop)]
 pub struct Decls {
     table: IndexMap<Pred, Decl>,
@@ -19,7 +21,7 @@ impl Model for Decls {
     ghost use Rattle.std.specs.Coded.{coded_list};
     ghost use Rattle.std.specs.Prelude.{List};
     ghost use Rattle.indexmap.specs.IndexMap.{values};
-    ghost use Rattle.ml_search.specs.DeclTable.{IsDeclared};
+    ghost use Rattle.ml_search.specs.inside.DeclTable.{IsDeclared};
     ghost use Rattle.ml_term.specs.contracts.declaration.Decl as decl;
     ghost use Rattle.ml_term.specs.declared.declaration.Decl.{Decl};
 
@@ -42,10 +44,11 @@ impl Decls {
         }
     }
 
-    /// Puts a declaration of a predicate that isn't declared behind all others. Where memory is refused, the declarations stay as they were.
+    /// Puts a declaration of a predicate that isn't declared behind all others. Where memory is
+    /// refused, the declarations stay as they were.
     pub fn add(&mut self, decl: Decl) -> Result<(), AllocError>
         requires other { place_of self.old decl.pred.name decl.pred.arity ≡ None }
-        requires room { length self.old < MOST_DECLARATIONS }
+        requires room { length self.old < max_declarations }
         ensures ok { OnOk result (self.new ≡ self.old ++ decl ∷ []) }
         ensures err { OnErr result (self.new ≡ self.old) }
     {
@@ -57,7 +60,7 @@ impl Decls {
     /// How many declarations there are. No two are of one predicate.
     pub fn len(&self) -> usize
         ensures same { result ≡ length self.now }
-        ensures few { length self.now ≤ MOST_DECLARATIONS }
+        ensures few { length self.now ≤ max_declarations }
         ensures once { IsTrue (are_declared_once self.now) }
     {
         self.table.len()
@@ -71,7 +74,8 @@ impl Decls {
         &self.table[i]
     }
 
-    /// The place of a predicate's declaration, from 0; none where it isn't declared. It takes no memory.
+    /// The place of a predicate's declaration, from 0; none where it isn't declared. It takes no
+    /// memory.
     pub fn place_of(&self, pred: &Pred) -> Option<usize>
         ensures same { result ≡ place_of self.now pred.now.name pred.now.arity }
         ensures within { IfSome result (λ i. i < length self.now) }

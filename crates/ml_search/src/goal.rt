@@ -7,8 +7,8 @@ use crate::names::Names;
 use ml_term::Term;
 use std::alloc::{AllocError, Global};
 
-/// A goal, with the names of its variables by first place. Its term is callable, and its variables are numbered from 0 by first place. Each
-/// number that has a name is one of its variables.
+/// A goal, with the names of its variables by first place. Its term is callable, and its variables
+/// are numbered from 0 by first place. Each number that has a name is one of its variables.
 #[derive(Drop)]
 pub struct Goal {
     pub term: Term,

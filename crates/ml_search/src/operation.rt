@@ -1,4 +1,5 @@
-//! The operations by which a session asks for the lists, and their replies. A clause stands as `:-(Head, Body)`, a fact with the body `true`.
+//! The operations by which a session asks for the lists, and their replies. A clause stands as
+//! `:-(Head, Body)`, a fact with the body `true`.
 ghost use Rattle.std.specs.Prelude.{◌≡◌, IfOk};
 
 use ml_term::Term;
@@ -7,7 +8,8 @@ use std::alloc::{AllocError, Global};
 /// What a session asks of the lists. Declarations, cursors and items are numbered from 0.
 #[derive(Drop)]
 pub enum Op {
-    /// Opens a cursor over a declaration's list with a head as its pattern. Its number is the number of cursors opened before.
+    /// Opens a cursor over a declaration's list with a head as its pattern. Its number is the
+    /// number of cursors opened before.
     Open(u32, Term),
     /// Asks a cursor for the item with this number.
     Next(u32, u32),

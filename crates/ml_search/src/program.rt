@@ -7,12 +7,14 @@ use crate::clauses::Clauses;
 use crate::decls::Decls;
 use std::alloc::{AllocError, Global};
 
-/// The declarations in their order, and the clauses of all predicates that aren't declared, in the order of the text.
+/// The declarations in their order, and the clauses of all predicates that aren't declared, in the
+/// order of the text.
 #[derive(Drop)]
 pub struct Program {
     pub decls: Decls,
     pub clauses: Clauses,
-    pub ghost well_formed: { IsTrue (is_program (record { decls = decls; clauses = clauses_seen clauses })) },
+    pub ghost well_formed: { IsTrue
+        (is_program (record { decls = decls; clauses = clauses_seen clauses })) },
 }
 
 impl Program {
@@ -22,7 +24,7 @@ impl Program {
         ensures decls { result.decls ≡ decls }
         ensures clauses { result.clauses ≡ clauses }
     {
-        let _count = decls.len();
+        let _declared_once = decls.len();
         Program { decls, clauses }
     }
 

@@ -4,7 +4,7 @@ ghost use Rattle.ml_term.specs.Seen.{seen};
 ghost use Rattle.ml_term.specs.Tree.{atom};
 
 use crate::{
-    Clause, Clauses, Decls, Goal, Goals, Last, Log, MOST_DECLARATIONS, Names, Program, Script,
+    Clause, Clauses, Decls, Goal, Goals, Last, Log, MAX_DECLARATIONS, Names, Program, Script,
     is_callable, is_clause_head, is_reserved,
 };
 use ml_term::{Args, Decl, Kind, Name, Pred, Term, is_name};
@@ -26,7 +26,7 @@ fn pred_of(rt: &impl Abort, alloc: Global, name: &[u8], arity: u8) -> Result<Pre
     })
 }
 
-/// Declares a predicate of one argument or more that isn't declared.
+// Declares a predicate of one argument or more that isn't declared.
 fn declare(
     rt: &impl Abort,
     alloc: Global,
@@ -37,36 +37,36 @@ fn declare(
 ) -> Result<(), AllocError> {
     assert!(rt; arity > 0);
     let decl = Decl::with_default_keys(alloc, pred_of(rt, alloc, name, arity)?, kind)?;
-    assert!(rt; decls.place_of(&decl.pred).is_none() && decls.len() < MOST_DECLARATIONS);
+    assert!(rt; decls.place_of(&decl.pred).is_none() && decls.len() < MAX_DECLARATIONS);
     decls.add(decl)
 }
 
-/// `p`.
+// `p`.
 fn p_atom(alloc: Global) -> Result<Term, AllocError>
     ensures { IfOk result (λ t. seen t ≡ atom (codes "p")) }
 {
     Ok(Term::Atom(Name::new(alloc, b"p")?))
 }
 
-/// `true`.
+// `true`.
 fn true_atom(alloc: Global) -> Result<Term, AllocError>
     ensures { IfOk result (λ t. seen t ≡ atom (codes "true")) }
 {
     Ok(Term::Atom(Name::new(alloc, b"true")?))
 }
 
-/// `p.`
+// `p.`
 fn p_clause(alloc: Global) -> Result<Clause, AllocError> {
     Ok(Clause::new(p_atom(alloc)?, true_atom(alloc)?))
 }
 
-/// `?- X.`
+// `?- X.`
 fn variable_goal(alloc: Global) -> Result<Goal, AllocError> {
     let names = vec![in alloc; (Name::new(alloc, b"X")?, 0)]?;
     Ok(Goal::new(Term::Var(0), Names::from_vec(names)))
 }
 
-/// The name of an atom.
+// The name of an atom.
 fn atom_name(t: &Term) -> &[u8] {
     match t {
         Term::Atom(f) => f.as_slice(),
@@ -74,7 +74,7 @@ fn atom_name(t: &Term) -> &[u8] {
     }
 }
 
-/// The place of a predicate's declaration.
+// The place of a predicate's declaration.
 fn place(
     rt: &impl Abort,
     alloc: Global,
@@ -86,7 +86,7 @@ fn place(
     Ok(decls.place_of(&pred))
 }
 
-/// p/1, q/2 and p/2.
+// p/1, q/2 and p/2.
 fn three_declared(rt: &impl Abort, alloc: Global) -> Result<Decls, AllocError> {
     let mut decls = Decls::new(alloc);
     declare(rt, alloc, &mut decls, b"p", 1, Kind::Relation)?;
@@ -203,7 +203,7 @@ fn a_body_with_an_integer_in_a_control_construct_is_not_callable(
 
 fn shared<T: Send + Sync>(_value: &T) {}
 
-/// All of them may be sent to threads and shared by them.
+// All of them may be sent to threads and shared by them.
 #[test]
 fn types_may_be_shared(rt: HostRuntime) -> Result<(), Fail> {
     let alloc = rt.alloc();

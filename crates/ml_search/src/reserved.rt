@@ -1,17 +1,19 @@
-//! Predicates that no declaration and no clause may define, and terms that may stand as bodies and as heads.
+//! Predicates that no declaration and no clause may define, and terms that may stand as bodies and
+//! as heads.
 ghost use Rattle.std.specs.Prelude.{◌≡◌};
 ghost use Rattle.ml_search.specs.Bodies.{is_callable, joins_bodies};
-ghost use Rattle.ml_search.specs.Known.{is_reserved};
-ghost use Rattle.ml_search.specs.Reserved.{is_among, reserved_0, reserved_1, reserved_2, reserved_3};
+ghost use Rattle.ml_search.specs.Procedures.{is_reserved};
+ghost use Rattle.ml_search.specs.inside.Reserved.{is_among, reserved_names_0, reserved_names_1};
+ghost use Rattle.ml_search.specs.inside.Reserved.{reserved_names_2, reserved_names_3};
 ghost use Rattle.ml_search.specs.WellFormed.{is_clause_head};
 ghost use Rattle.ml_term.specs.Seen.{seen};
 
 use ml_term::{Name, Term};
 
-/// The control constructs without arguments.
+// The control constructs without arguments.
 const RESERVED_0: [&[u8]; 3] = [b"true", b"fail", b"!"];
 
-/// The control constructs and built-ins of one argument.
+// The control constructs and built-ins of one argument.
 const RESERVED_1: [&[u8]; 17] = [
     b"call",
     b"\\+",
@@ -32,7 +34,7 @@ const RESERVED_1: [&[u8]; 17] = [
     b"ground",
 ];
 
-/// The control constructs and built-ins of two arguments.
+// The control constructs and built-ins of two arguments.
 const RESERVED_2: [&[u8]; 20] = [
     b",",
     b";",
@@ -56,34 +58,35 @@ const RESERVED_2: [&[u8]; 20] = [
     b">=",
 ];
 
-/// The control constructs and built-ins of three arguments.
+// The control constructs and built-ins of three arguments.
 const RESERVED_3: [&[u8]; 4] = [b"findall", b"catch", b"functor", b"arg"];
 
 fn is_reserved_0(name: &[u8]) -> bool
-    ensures { result ≡ is_among reserved_0 name.now }
+    ensures { result ≡ is_among reserved_names_0 name.now }
 {
     RESERVED_0.contains(&name)
 }
 
 fn is_reserved_1(name: &[u8]) -> bool
-    ensures { result ≡ is_among reserved_1 name.now }
+    ensures { result ≡ is_among reserved_names_1 name.now }
 {
     RESERVED_1.contains(&name)
 }
 
 fn is_reserved_2(name: &[u8]) -> bool
-    ensures { result ≡ is_among reserved_2 name.now }
+    ensures { result ≡ is_among reserved_names_2 name.now }
 {
     RESERVED_2.contains(&name)
 }
 
 fn is_reserved_3(name: &[u8]) -> bool
-    ensures { result ≡ is_among reserved_3 name.now }
+    ensures { result ≡ is_among reserved_names_3 name.now }
 {
     RESERVED_3.contains(&name)
 }
 
-/// Whether a predicate is a control construct or a built-in, which no declaration and no clause may define. It takes no memory.
+/// Whether a predicate is a control construct or a built-in, which no declaration and no clause may
+/// define. It takes no memory.
 pub fn is_reserved(name: &Name, arity: usize) -> bool
     ensures { result ≡ is_reserved name.now arity }
 {
@@ -97,7 +100,7 @@ pub fn is_reserved(name: &Name, arity: usize) -> bool
     }
 }
 
-/// Whether a compound of this name and two arguments is callable only where both arguments are.
+// Whether a compound of this name and two arguments is callable only where both arguments are.
 fn joins_bodies(name: &Name) -> bool
     ensures { result ≡ joins_bodies name.now }
 {
@@ -105,7 +108,8 @@ fn joins_bodies(name: &Name) -> bool
     name == b",".as_slice() || name == b";".as_slice() || name == b"->".as_slice()
 }
 
-/// Whether a term is callable: an integer isn't, and `,`, `;` and `->` of two arguments are where both of these are. It takes no memory.
+/// Whether a term is callable: an integer isn't, and `,`, `;` and `->` of two arguments are where
+/// both of these are. It takes no memory.
 pub fn is_callable(t: &Term) -> bool
     ensures { result ≡ is_callable (seen t.now) }
 {
@@ -120,8 +124,8 @@ pub fn is_callable(t: &Term) -> bool
     }
 }
 
-/// Whether a term may be the head of a clause: an atom or a compound whose predicate is no control construct and no built-in. It takes no
-/// memory.
+/// Whether a term may be the head of a clause: an atom or a compound whose predicate is no control
+/// construct and no built-in. It takes no memory.
 pub fn is_clause_head(t: &Term) -> bool
     ensures { result ≡ is_clause_head (seen t.now) }
 {

@@ -1,13 +1,13 @@
-//! Worked rows: programs with what their sessions print, word for word, and terms with what they become. The functions do nothing: the checker computes
-//! each row over the definitions.
-ghost use Rattle.ml_search.specs.RowsArithmetic.{ArithmeticRows};
-ghost use Rattle.ml_search.specs.RowsCatch.{CatchRows};
-ghost use Rattle.ml_search.specs.RowsControl.{ControlRows};
-ghost use Rattle.ml_search.specs.RowsEndings.{EndingRows};
-ghost use Rattle.ml_search.specs.RowsRelations.{RelationRows};
-ghost use Rattle.ml_search.specs.RowsReplay.{ReplayRows};
-ghost use Rattle.ml_search.specs.RowsStored.{StoredRows};
-ghost use Rattle.ml_search.specs.RowsTerms.{TermRows};
+//! Worked rows: programs with what their sessions print, word for word, and terms with what they
+//! become. The functions do nothing: the checker computes each row over the definitions.
+ghost use Rattle.ml_search.specs.inside.RowsArithmetic.{ArithmeticRows};
+ghost use Rattle.ml_search.specs.inside.RowsCatch.{CatchRows};
+ghost use Rattle.ml_search.specs.inside.RowsControl.{ControlRows};
+ghost use Rattle.ml_search.specs.inside.RowsEndings.{EndingRows};
+ghost use Rattle.ml_search.specs.inside.RowsRelations.{RelationRows};
+ghost use Rattle.ml_search.specs.inside.RowsReplay.{ReplayRows};
+ghost use Rattle.ml_search.specs.inside.RowsStored.{StoredRows};
+ghost use Rattle.ml_search.specs.inside.RowsTerms.{TermRows};
 
 /// Values, results out of range, and what raises.
 pub fn arithmetic_rows()

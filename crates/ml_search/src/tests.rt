@@ -3,7 +3,7 @@ use crate::{Change, Log, Op, Reply, What};
 use ml_term::Term;
 use std::test::Fail;
 
-/// Which operation it is, with its numbers, or the integer that is its term.
+// Which operation it is, with its numbers, or the integer that is its term.
 fn numbers_of(op: &Op) -> (u8, i64, u32) {
     match op {
         Op::Open(d, t) => (0, number_of(t), *d),
@@ -16,7 +16,7 @@ fn numbers_of(op: &Op) -> (u8, i64, u32) {
     }
 }
 
-/// Which reply it is, with its number or the integer that is its term.
+// Which reply it is, with its number or the integer that is its term.
 fn reply_number(reply: &Reply) -> (u8, i64) {
     match reply {
         Reply::Cursor(c) => (0, *c as i64),
@@ -30,7 +30,7 @@ fn reply_number(reply: &Reply) -> (u8, i64) {
     }
 }
 
-/// The integer that a term is, and -1 for every other term.
+// The integer that a term is, and -1 for every other term.
 fn number_of(t: &Term) -> i64 {
     match t {
         Term::Int(z) => *z,

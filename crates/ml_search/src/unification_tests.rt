@@ -35,7 +35,7 @@ fn meets(rt: &impl Abort, alloc: Global, pattern: &Term, head: &Term) -> Result<
     unifies(alloc, pattern, head)
 }
 
-/// Whether a map replaces a variable by a term.
+// Whether a map replaces a variable by a term.
 fn has(map: &Map, variable: u32, wanted: &Term) -> bool {
     match map.get(variable) {
         Some(term) => compare(term, wanted) == Ordering::Equal,
@@ -43,7 +43,7 @@ fn has(map: &Map, variable: u32, wanted: &Term) -> bool {
     }
 }
 
-/// Whether two terms have a unifier with so many variables replaced, under which they are one.
+// Whether two terms have a unifier with so many variables replaced, under which they are one.
 fn is_unified(
     rt: &impl Abort,
     alloc: Global,
@@ -104,7 +104,8 @@ fn of_two_variables_the_younger_is_replaced(rt: HostRuntime) -> Result<(), Fail>
     Ok(())
 }
 
-/// f(X0,a), f(b,X0); X0, g(X0); f(X0,X0), f(X0,g(X0)); f(X0,X0), f(1,1); f(X0,X0), f(1,2); f(X0,X1), g(X0); 1, 2; a, a.
+// f(X0,a), f(b,X0); X0, g(X0); f(X0,X0), f(X0,g(X0)); f(X0,X0), f(1,1); f(X0,X0), f(1,2);
+// f(X0,X1), g(X0); 1, 2; a, a.
 fn pair_of(rt: &impl Abort, alloc: Global, row: u8) -> Result<(Term, Term), AllocError> {
     let x = Term::Var(0);
     let twice = two(rt, alloc, b"f", Term::Var(0), Term::Var(0))?;
@@ -127,7 +128,8 @@ fn pair_of(rt: &impl Abort, alloc: Global, row: u8) -> Result<(Term, Term), Allo
 #[test]
 fn a_head_is_renamed_apart_from_a_pattern(rt: HostRuntime) -> Result<(), Fail> {
     let alloc = rt.alloc();
-    // the pair, how many variables its unifier replaces, and whether it unifies where the second term is renamed apart
+    // the pair, how many variables its unifier replaces, and whether it unifies where the second
+    // term is renamed apart
     let rows: [(u8, Option<usize>, bool); 8] = [
         (0, None, true),
         (1, None, true),
@@ -154,7 +156,7 @@ fn a_head_is_renamed_apart_from_a_pattern(rt: HostRuntime) -> Result<(), Fail> {
     Ok(())
 }
 
-/// g(g(..)) of some levels round a term.
+// g(g(..)) of some levels round a term.
 fn nested(rt: &impl Abort, alloc: Global, levels: usize, t: Term) -> Result<Term, AllocError> {
     let mut nested = t;
     for _ in 0..levels {
@@ -182,7 +184,7 @@ fn a_cycle_through_deep_terms_is_found(rt: HostRuntime) -> Result<(), Fail> {
     Ok(())
 }
 
-/// A term of at most 100 nodes with variables from a number below 1,000 on.
+// A term of at most 100 nodes with variables from a number below 1,000 on.
 fn renamed(rt: &impl Abort, alloc: Global, t: &Term, first: u32) -> Result<Term, AllocError> {
     assert!(rt; is_valid(t) && first < 1000);
     assert!(rt; nodes_up_to(t, 100) <= 100);

@@ -1,7 +1,7 @@
-pub mod Counting
-pub mod Walking
-pub mod Parting
+pub mod KeyCounts
+pub mod SplitWalk
+pub mod PartingKeys
 pub mod RegionKeys
-pub mod Further
-pub mod Meeting
+pub mod FurtherKey
+pub mod MeetingRegions
 pub mod RegionSizes

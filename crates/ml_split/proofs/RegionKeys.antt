@@ -1,5 +1,6 @@
 -- The keys of regions that are split or meet: none begins another one, and all begin with one prefix.
-use Rattle.std.proofs.Common.{◌≡◌, ℕ, zero, suc, ◌-◌, ◌+◌, ◌<◌, ◌≤◌, Bool, List, [], ◌∷◌, ◌++◌, length, refl, sym, ap, ◌∙◌, subst, inl, inr, arith, length-append}
+use Rattle.std.proofs.Common.{◌≡◌, ℕ, zero, suc, ◌-◌, ◌+◌, ◌<◌, ◌≤◌, Bool, List, [], ◌∷◌, ◌++◌, length, refl, sym, ap, ◌∙◌, subst, inl, inr, arith}
+use Rattle.std.proofs.Common.{length-append}
 use Rattle.std.specs.Prelude.{Option, Some, None}
 use Rattle.std.specs.Option.{ForSome}
 use Rattle.std.specs.List.{All, filter}
@@ -15,7 +16,7 @@ use Rattle.ml_region.specs.Regions.{Region, IsWellPlaced, region_at, region_pref
 use Rattle.ml_region.specs.declared.item.Item.{Item}
 use Rattle.ml_term.specs.Patterns.{begins}
 use Rattle.ml_split.specs.Splitting.{AreApart, IsFair, count_under}
-use Rattle.ml_split.proofs.Walking.{count_within}
+use Rattle.ml_split.proofs.SplitWalk.{count_within}
 use Rattle.ml_split.specs.RegionSplits.{keys_with, IsNewTo}
 
 -- ---- lists of keys
@@ -49,17 +50,20 @@ apart_append xs ys first second across back a b h k begin =
             | inl m ↦ first a b l m (subst (λ x. Begins x (bits_at xs b)) at_a (subst (Begins (bits_at (xs ++ ys) a)) (get_or_append_left xs ys [] b m) begin))
             | inr m ↦
                 let there : b - length xs < length ys = omega arith in
-                absurd (across a (b - length xs) l there (subst (λ x. Begins x (bits_at ys (b - length xs))) at_a (subst (Begins (bits_at (xs ++ ys) a)) (get_or-append_right xs ys (length xs) b [] refl m) begin)))
+                absurd (across a (b - length xs) l there (subst (λ x. Begins x (bits_at ys (b - length xs))) at_a
+                (subst (Begins (bits_at (xs ++ ys) a)) (get_or-append_right xs ys (length xs) b [] refl m) begin)))
           ]
       | inr l ↦
           let there : a - length xs < length ys = omega arith in
           let at_a : bits_at (xs ++ ys) a ≡ bits_at ys (a - length xs) = get_or-append_right xs ys (length xs) a [] refl l in
           elim (cases_lt b (length xs)) [
-            | inl m ↦ absurd (back b (a - length xs) m there (subst (λ x. Begins x (bits_at xs b)) at_a (subst (Begins (bits_at (xs ++ ys) a)) (get_or_append_left xs ys [] b m) begin)))
+            | inl m ↦ absurd (back b (a - length xs) m there (subst (λ x. Begins x (bits_at xs b)) at_a
+                (subst (Begins (bits_at (xs ++ ys) a)) (get_or_append_left xs ys [] b m) begin)))
             | inr m ↦
                 let here : b - length xs < length ys = omega arith in
                 let same : a - length xs ≡ b - length xs = second (a - length xs) (b - length xs) there here
-                (subst (λ x. Begins x (bits_at ys (b - length xs))) at_a (subst (Begins (bits_at (xs ++ ys) a)) (get_or-append_right xs ys (length xs) b [] refl m) begin)) in
+                (subst (λ x. Begins x (bits_at ys (b - length xs))) at_a
+                (subst (Begins (bits_at (xs ++ ys) a)) (get_or-append_right xs ys (length xs) b [] refl m) begin)) in
                 omega arith
           ]
     ]
@@ -90,9 +94,11 @@ owned_at regions well i a h l = well.owned i (bits_at (keys_at regions i) a) h (
 pub region_apart : (regions : List Region) → IsWellPlaced regions → (i : ℕ) → i < length regions → AreApart (keys_at regions i)
 region_apart regions well i h a b l m begin =
     rising_once (keys_at regions i) (well.ordered i h) a b l m
-    (well.apart i i (bits_at (keys_at regions i) a) (bits_at (keys_at regions i) b) h h (Contains-get_or (keys_at regions i) a [] l) (Contains-get_or (keys_at regions i) b [] m) begin)
+    (well.apart i i (bits_at (keys_at regions i) a) (bits_at (keys_at regions i) b) h h (Contains-get_or (keys_at regions i) a [] l)
+    (Contains-get_or (keys_at regions i) b [] m) begin)
 
-pub region_begins : (regions : List Region) → IsWellPlaced regions → (i : ℕ) → i < length regions → All (Begins (region_at regions i).prefix) (keys_at regions i)
+pub region_begins : (regions : List Region) → IsWellPlaced regions → (i : ℕ) → i < length regions →
+    All (Begins (region_at regions i).prefix) (keys_at regions i)
 region_begins regions well i h =
     all_at (region_at regions i).prefix (keys_at regions i) (λ a l.
     let own : IsOwner (region_prefixes regions) (bits_at (keys_at regions i) a) i = owned_at regions well i a h l in
@@ -111,7 +117,8 @@ owned_once regions i p key h parent low high =
 pub parent_within : (regions : List Region) (i p : ℕ) → IsParent (region_prefixes regions) (region_at regions i).prefix p → p < length regions
 parent_within regions i p parent = omega (arith, parent.within, length-map regions (λ (r : Region). r.prefix))
 
-pub meeting_apart : (regions : List Region) → IsWellPlaced regions → (i p : ℕ) → i < length regions → IsParent (region_prefixes regions) (region_at regions i).prefix p
+pub meeting_apart : (regions : List Region) → IsWellPlaced regions → (i p : ℕ) → i < length regions →
+    IsParent (region_prefixes regions) (region_at regions i).prefix p
     → AreApart (keys_at regions i ++ keys_at regions p)
 meeting_apart regions well i p h parent =
     let k : p < length regions = parent_within regions i p parent in
@@ -120,16 +127,20 @@ meeting_apart regions well i p h parent =
     apart_append xs ys (region_apart regions well i h) (region_apart regions well p k)
     (λ a b l m begin.
     let same : bits_at xs a ≡ bits_at ys b = well.apart i p (bits_at xs a) (bits_at ys b) h k (Contains-get_or xs a [] l) (Contains-get_or ys b [] m) begin in
-    owned_once regions i p (bits_at ys b) h parent (subst (λ x. IsOwner (region_prefixes regions) x i) same (owned_at regions well i a h l)) (owned_at regions well p b k m))
+    owned_once regions i p (bits_at ys b) h parent (subst (λ x. IsOwner (region_prefixes regions) x i) same (owned_at regions well i a h l))
+    (owned_at regions well p b k m))
     (λ a b l m begin.
     let same : bits_at ys b ≡ bits_at xs a = well.apart p i (bits_at ys b) (bits_at xs a) k h (Contains-get_or ys b [] m) (Contains-get_or xs a [] l) begin in
-    owned_once regions i p (bits_at xs a) h parent (owned_at regions well i a h l) (subst (λ x. IsOwner (region_prefixes regions) x p) same (owned_at regions well p b k m)))
+    owned_once regions i p (bits_at xs a) h parent (owned_at regions well i a h l)
+    (subst (λ x. IsOwner (region_prefixes regions) x p) same (owned_at regions well p b k m)))
 
-pub meeting_begins : (regions : List Region) → IsWellPlaced regions → (i p : ℕ) → i < length regions → IsParent (region_prefixes regions) (region_at regions i).prefix p
+pub meeting_begins : (regions : List Region) → IsWellPlaced regions → (i p : ℕ) → i < length regions →
+    IsParent (region_prefixes regions) (region_at regions i).prefix p
     → All (Begins (region_at regions p).prefix) (keys_at regions i ++ keys_at regions p)
 meeting_begins regions well i p h parent =
     let k : p < length regions = parent_within regions i p parent in
-    let above : Begins (region_at regions p).prefix (region_at regions i).prefix = subst (λ q. Begins q (region_at regions i).prefix) (prefix_is regions p k) parent.begins in
+    let above : Begins (region_at regions p).prefix (region_at regions i).prefix =
+    subst (λ q. Begins q (region_at regions i).prefix) (prefix_is regions p k) parent.begins in
     let low : All (Begins (region_at regions i).prefix) (keys_at regions i) = region_begins regions well i h in
     All-append (Begins (region_at regions p).prefix) (keys_at regions i) (keys_at regions p)
     (all_at (region_at regions p).prefix (keys_at regions i) (λ a l.
@@ -138,7 +149,8 @@ meeting_begins regions well i p h parent =
 
 -- ---- a region and a further key
 
-pub further_apart : (regions : List Region) → IsWellPlaced regions → (i : ℕ) → i < length regions → (further : Option BitList) → ForSome further (λ key. IsNewTo regions i key.bits)
+pub further_apart : (regions : List Region) → IsWellPlaced regions → (i : ℕ) → i < length regions → (further : Option BitList) →
+    ForSome further (λ key. IsNewTo regions i key.bits)
     → AreApart (keys_with (keys_at regions i) further)
 further_apart regions well i h None new = region_apart regions well i h
 further_apart regions well i h (Some key) new =
@@ -148,7 +160,8 @@ further_apart regions well i h (Some key) new =
     (λ a b l m begin. (known.apart i (bits_at xs a) h (Contains-get_or xs a [] l)).0 (subst (Begins (bits_at xs a)) (only key.bits b m) begin))
     (λ a b l m begin. (known.apart i (bits_at xs a) h (Contains-get_or xs a [] l)).1 (subst (λ x. Begins x (bits_at xs a)) (only key.bits b m) begin))
 
-pub further_begins : (regions : List Region) → IsWellPlaced regions → (i : ℕ) → i < length regions → (further : Option BitList) → ForSome further (λ key. IsNewTo regions i key.bits)
+pub further_begins : (regions : List Region) → IsWellPlaced regions → (i : ℕ) → i < length regions → (further : Option BitList) →
+    ForSome further (λ key. IsNewTo regions i key.bits)
     → All (Begins (region_at regions i).prefix) (keys_with (keys_at regions i) further)
 further_begins regions well i h None new = region_begins regions well i h
 further_begins regions well i h (Some key) new =
@@ -156,13 +169,15 @@ further_begins regions well i h (Some key) new =
     All-append (Begins (region_at regions i).prefix) (keys_at regions i) (key.bits ∷ []) (region_begins regions well i h)
     (one_begins (region_at regions i).prefix key.bits (subst (λ p. Begins p key.bits) (prefix_is regions i h) known.owner.begins))
 
-pub few_with : (regions : List Region) → IsWellPlaced regions → (i : ℕ) → i < length regions → (further : Option BitList) → length (keys_with (keys_at regions i) further) ≤ 32
+pub few_with : (regions : List Region) → IsWellPlaced regions → (i : ℕ) → i < length regions → (further : Option BitList) →
+    length (keys_with (keys_at regions i) further) ≤ 32
 few_with regions well i h None = omega (arith, well.few i h, length-map (items_at regions i) (λ (x : Item). x.key.bits))
 few_with regions well i h (Some key) =
     omega (arith, well.few i h, length-map (items_at regions i) (λ (x : Item). x.key.bits), length-append (keys_at regions i) (key.bits ∷ []))
 
 -- a region has one parent
-pub one_parent : (regions : List Region) → IsWellPlaced regions → (prefix : List Bool) (a b : ℕ) → IsParent (region_prefixes regions) prefix a → IsParent (region_prefixes regions) prefix b → a ≡ b
+pub one_parent : (regions : List Region) → IsWellPlaced regions → (prefix : List Bool) (a b : ℕ) → IsParent (region_prefixes regions) prefix a →
+    IsParent (region_prefixes regions) prefix b → a ≡ b
 one_parent regions well prefix a b first second =
     let prefixes : List (List Bool) = region_prefixes regions in
     let up : length (bits_at prefixes a) ≤ length (bits_at prefixes b) = second.longest a first.within first.begins first.shorter in
@@ -172,9 +187,15 @@ one_parent regions well prefix a b first second =
     (begins_shorter (bits_at prefixes b) (bits_at prefixes a) prefix second.begins first.begins down))
 
 -- how many keys there are where a region meets its parent
-pub meeting_length : (regions : List Region) (i p : ℕ) → length (keys_at regions i ++ keys_at regions p) ≡ length (items_at regions i) + length (items_at regions p)
+pub meeting_length : (regions : List Region) (i p : ℕ) →
+    length (keys_at regions i ++ keys_at regions p) ≡ length (items_at regions i) + length (items_at regions p)
 meeting_length regions i p =
-    omega (arith, length-append (keys_at regions i) (keys_at regions p), length-map (items_at regions i) (λ (x : Item). x.key.bits), length-map (items_at regions p) (λ (x : Item). x.key.bits))
+    omega (
+      arith,
+      length-append (keys_at regions i) (keys_at regions p),
+      length-map (items_at regions i) (λ (x : Item). x.key.bits),
+      length-map (items_at regions p) (λ (x : Item). x.key.bits),
+    )
 
 -- where a fair split's prefix begins at least a third of 25 keys or more, it begins another key than the last
 pub others_under : (keys : List (List Bool)) (key old new : List Bool) → 24 ≤ length keys → IsFair (keys ++ key ∷ []) old new → 0 < count_under new keys
@@ -184,7 +205,8 @@ others_under keys key old new many fair =
     omega (arith, parts, fair.at_least, length-append keys (key ∷ []), count_within new (key ∷ []))
 
 -- the last of some keys
-pub last_key : (keys : List (List Bool)) (key : List Bool) (a own : ℕ) → own ≡ length keys → own ≤ a → a < length (keys ++ key ∷ []) → bits_at (keys ++ key ∷ []) a ≡ key
+pub last_key : (keys : List (List Bool)) (key : List Bool) (a own : ℕ) → own ≡ length keys → own ≤ a → a < length (keys ++ key ∷ []) →
+    bits_at (keys ++ key ∷ []) a ≡ key
 last_key keys key a own e h l =
     let same : a ≡ length keys = omega (arith, length-append keys (key ∷ [])) in
     get_or_push keys key [] a (sym same)

@@ -1,5 +1,6 @@
 -- How many items regions have where one is cut, and where a thin one is settled.
-use Rattle.std.proofs.Common.{◌≡◌, ◌≢◌, ◌⊎◌, inl, inr, ℕ, ◌+◌, ◌<◌, ◌≤◌, Bool, true, false, cond, not, List, [], ◌∷◌, ◌++◌, length, map, refl, sym, ap, ◌∙◌, subst, arith, length-append}
+use Rattle.std.proofs.Common.{◌≡◌, ◌≢◌, ◌⊎◌, inl, inr, ℕ, ◌+◌, ◌<◌, ◌≤◌, Bool, true, false, cond, not, List, [], ◌∷◌, ◌++◌, length, map, refl, sym, ap, ◌∙◌}
+use Rattle.std.proofs.Common.{subst, arith, length-append}
 use Rattle.std.specs.List.{filter, insert, remove}
 use Rattle.std.specs.List.Sorted.{IsPermutation}
 use Rattle.std.proofs.lemmas.Bool.{cases_eq}
@@ -13,12 +14,12 @@ use Rattle.ml_term.specs.Patterns.{begins}
 use Rattle.ml_region.specs.Regions.{Region, IsWellPlaced, items_at, keys_at, region_at, empty_region, with_items}
 use Rattle.ml_region.specs.Changes.{IsCut, IsMerged, IsRecut, items_below, items_beside}
 use Rattle.ml_region.specs.declared.item.Item.{Item}
-use Rattle.ml_region.proofs.Lists.{in_insert, in_front, itself, behind, in_remove, stays, moves}
-use Rattle.ml_region.proofs.Merging.{parent_before}
-use Rattle.ml_region.proofs.Placed.{with_items_length, items_same, items_other}
+use Rattle.ml_region.proofs.ListInsertions.{in_insert, in_front, itself, behind, in_remove, stays, moves}
+use Rattle.ml_region.proofs.RegionMerges.{parent_before}
+use Rattle.ml_region.proofs.PlacedRegions.{with_items_length, items_same, items_other}
 use Rattle.ml_split.specs.RegionSplits.{IsSettled, IsSplitFor, goes_in, splits_again}
 use Rattle.ml_split.specs.Splitting.{IsFair, count_under}
-use Rattle.ml_split.proofs.Walking.{count_within}
+use Rattle.ml_split.proofs.SplitWalk.{count_within}
 use Rattle.ml_split.proofs.RegionKeys.{one_parent, parent_within}
 
 -- no region has over 24 items
@@ -31,7 +32,8 @@ AreFewBut regions i = (k : ℕ) → k < length regions → k ≢ i → length (i
 
 -- ---- items under a prefix and beside it
 
-same_sizes : {X Y : Type 0} (b : Bool) (x : X) (y : Y) (xs : List X) (ys : List Y) → length xs ≡ length ys → length (cond b (x ∷ xs) xs) ≡ length (cond b (y ∷ ys) ys)
+same_sizes : {X Y : Type 0} (b : Bool) (x : X) (y : Y) (xs : List X) (ys : List Y) → length xs ≡ length ys →
+    length (cond b (x ∷ xs) xs) ≡ length (cond b (y ∷ ys) ys)
 same_sizes true x y xs ys e = omega arith
 same_sizes false x y xs ys e = e
 
@@ -59,7 +61,8 @@ located regions c r k h l =
     ]
 
 -- the new region's place is within reach
-pub place_within : (old : List Region) (i : ℕ) (p : List Bool) (new : List Region) (cut : IsCut old i p new) (items : List Item) → cut.place ≤ length (with_items old i items)
+pub place_within : (old : List Region) (i : ℕ) (p : List Bool) (new : List Region) (cut : IsCut old i p new) (items : List Item) →
+    cut.place ≤ length (with_items old i items)
 place_within old i p new cut items =
     omega (arith, cut.fits.within, with_items_length old i items, length-map old (λ (r : Region). r.prefix))
 
@@ -86,7 +89,8 @@ cut_few old i p new h cut low aside few k l =
     ])
 
 -- a region of 31 items at most is split at a fair prefix
-pub split_few : (old : List Region) (i : ℕ) (base p : List Bool) (new : List Region) → IsWellPlaced old → i < length old → IsFair (keys_at old i) base p → IsCut old i p new
+pub split_few : (old : List Region) (i : ℕ) (base p : List Bool) (new : List Region) → IsWellPlaced old → i < length old → IsFair (keys_at old i) base p →
+    IsCut old i p new
     → AreFewBut old i → AreFew new
 split_few old i base p new well h fair cut few =
     let items : List Item = items_at old i in
@@ -99,7 +103,8 @@ split_few old i base p new well h fair cut few =
     cut_few old i p new h cut low aside few
 
 -- a region of 31 items at most is split at a prefix that is fair for its keys and one more
-pub split_for_few : (old : List Region) (i : ℕ) (key : List Bool) (new : List Region) → IsWellPlaced old → i < length old → IsSplitFor old i key new → AreFewBut old i → AreFew new
+pub split_for_few : (old : List Region) (i : ℕ) (key : List Bool) (new : List Region) → IsWellPlaced old → i < length old → IsSplitFor old i key new →
+    AreFewBut old i → AreFew new
 split_for_few old i key new well h split few =
     let p : List Bool = split.prefix in
     let items : List Item = items_at old i in
@@ -126,7 +131,8 @@ pub record Merged (old : List Region) (i : ℕ) (middle : List Region) (merged :
   pub there : items_at middle merged.parent ≡ merged.items
   pub others : (k : ℕ) → k < length middle → k ≢ merged.parent → (m : ℕ) × (m < length old) × (items_at middle k ≡ items_at old m)
 
-pub merged_facts : (old : List Region) (i : ℕ) (middle : List Region) → IsWellPlaced old → i < length old → (merged : IsMerged old i middle) → Merged old i middle merged
+pub merged_facts : (old : List Region) (i : ℕ) (middle : List Region) → IsWellPlaced old → i < length old → (merged : IsMerged old i middle) →
+    Merged old i middle merged
 merged_facts old i middle well h merged =
     let p : ℕ = merged.parent in
     let items : List Item = merged.items in
@@ -167,9 +173,11 @@ met_below old i p prefix items order =
     let b : List Item = items_at old p in
     let test : Item → Bool = λ (x : Item). begins prefix x.key.bits in
     let first : length (filter test (b ++ a)) ≡ length (filter test items) = filter_length test (b ++ a) items order in
-    let second : length (filter test (b ++ a)) ≡ length (filter test b) + length (filter test a) = ap length (filter-append test b a) ∙ length-append (filter test b) (filter test a) in
+    let second : length (filter test (b ++ a)) ≡ length (filter test b) + length (filter test a) =
+    ap length (filter-append test b a) ∙ length-append (filter test b) (filter test a) in
     let third : count_under prefix (keys_at old i ++ keys_at old p) ≡ count_under prefix (keys_at old i) + count_under prefix (keys_at old p) =
-    ap length (filter-append (begins prefix) (keys_at old i) (keys_at old p)) ∙ length-append (filter (begins prefix) (keys_at old i)) (filter (begins prefix) (keys_at old p)) in
+    ap length (filter-append (begins prefix) (keys_at old i) (keys_at old p))
+    ∙ length-append (filter (begins prefix) (keys_at old i)) (filter (begins prefix) (keys_at old p)) in
     omega (arith, first, second, third, below_count prefix a, below_count prefix b)
 
 -- as many items met as keys
@@ -202,7 +210,8 @@ pub record Recut (old : List Region) (i : ℕ) (prefix : List Bool) (new : List 
   pub aside_many : 8 ≤ length (items_beside prefix (items_at recut.middle recut.merged.parent))
   pub aside_few : length (items_beside prefix (items_at recut.middle recut.merged.parent)) ≤ 24
 
-pub recut_facts : (old : List Region) (i : ℕ) (prefix : List Bool) (new : List Region) → IsWellPlaced old → i < length old → length (items_at old i) < 8 → AreFew old
+pub recut_facts : (old : List Region) (i : ℕ) (prefix : List Bool) (new : List Region) → IsWellPlaced old → i < length old → length (items_at old i) < 8 →
+    AreFew old
     → (recut : IsRecut old i prefix new) → 24 < length (keys_at old i ++ keys_at old recut.merged.parent) → (base : List Bool)
     → IsFair (keys_at old i ++ keys_at old recut.merged.parent) base prefix → Recut old i prefix new recut
 recut_facts old i prefix new well h thin few recut many base fair =
@@ -224,7 +233,8 @@ recut_facts old i prefix new well h thin few recut many base fair =
       aside_few = omega (arith, under, fair.at_least, most, sizes, as_many);
     }
 
-pub recut_few : (old : List Region) (i : ℕ) (prefix : List Bool) (new : List Region) → IsWellPlaced old → i < length old → length (items_at old i) < 8 → AreFew old
+pub recut_few : (old : List Region) (i : ℕ) (prefix : List Bool) (new : List Region) → IsWellPlaced old → i < length old → length (items_at old i) < 8 →
+    AreFew old
     → (recut : IsRecut old i prefix new) → 24 < length (keys_at old i ++ keys_at old recut.merged.parent) → (base : List Bool)
     → IsFair (keys_at old i ++ keys_at old recut.merged.parent) base prefix → AreFew new
 recut_few old i prefix new well h thin few recut many base fair =
@@ -235,7 +245,8 @@ recut_few old i prefix new well h thin few recut many base fair =
     (λ k l d. let other = m.others k l d in omega (arith, few other.0 other.1, ap length other.2))
 
 -- where a thin region is settled no region has over 24 items, if none had before
-pub settled_few : (old : List Region) (i : ℕ) (new : List Region) → IsWellPlaced old → i < length old → length (items_at old i) < 8 → IsSettled old i new → AreFew old → AreFew new
+pub settled_few : (old : List Region) (i : ℕ) (new : List Region) → IsWellPlaced old → i < length old → length (items_at old i) < 8 → IsSettled old i new →
+    AreFew old → AreFew new
 settled_few old i new well h thin (goes_in p is little merged) few =
     let same : p ≡ merged.parent = one_parent old well (region_at old i).prefix p merged.parent is merged.is_parent in
     goes_few old i new well h merged (subst (λ q. length (keys_at old i ++ keys_at old q) ≤ 24) same little) few

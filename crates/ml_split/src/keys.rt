@@ -5,22 +5,22 @@ ghost use Rattle.ml_region.specs.Regions.{keys_of};
 use ml_bits::Bits;
 use ml_region::Item;
 
-/// A list of keys that can be read at each place.
+// A list of keys that can be read at each place.
 pub(crate) trait Keys {
-    /// The keys in their order.
+    // The keys in their order.
     ghost keys: { Self → List (List Bool) };
 
-    /// How many keys there are.
+    // How many keys there are.
     fn len(&self) -> usize
         ensures { result ≡ length (keys self.now) };
 
-    /// The key at place `i`, from 0.
+    // The key at place `i`, from 0.
     fn key(&self, i: usize) -> &Bits
         requires { i < length (keys self.now) }
         ensures { result.now.bits ≡ slice_index_or (keys self.now) i [] };
 }
 
-/// The key of the item at place `i`, from 0.
+// The key of the item at place `i`, from 0.
 pub(crate) fn key_at(items: &[Item], i: usize) -> &Bits
     requires { i < length items.now }
     ensures { result.now.bits ≡ slice_index_or (keys_of items.now) i [] }

@@ -1,4 +1,5 @@
-//! The limits of regions that are split and settled.
+//! The limits of what is split.
+use ml_region::PAGE_ITEMS;
 
-/// How many items a region has at most between two calls of a file.
-pub const MOST_ITEMS: usize = 24;
+// How many keys are looked at together at most: those of two regions.
+pub(crate) const MAX_SPLIT_KEYS: usize = 2 * PAGE_ITEMS;

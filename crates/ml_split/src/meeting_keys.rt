@@ -1,17 +1,18 @@
 //! The keys of two regions that meet, by their numbers.
 ghost use Rattle.std.specs.Prelude.{◌≤◌, length};
+ghost use Rattle.ml_region.specs.Limits.{page_items};
 
 use crate::keys::{Keys, key_at};
 use ml_bits::Bits;
 use ml_region::Item;
 
-/// The keys of the items of a region, and then those of its parent.
+// The keys of the items of a region, and then those of its parent.
 #[derive(Drop)]
 pub(crate) struct MeetingKeys<'a> {
     pub(crate) own: &'a [Item],
     pub(crate) above: &'a [Item],
-    pub(crate) ghost own_few: { length own.now ≤ 31 },
-    pub(crate) ghost above_few: { length above.now ≤ 31 },
+    pub(crate) ghost own_few: { length own.now ≤ page_items },
+    pub(crate) ghost above_few: { length above.now ≤ page_items },
 }
 
 impl Keys for MeetingKeys<'_> {

@@ -1,31 +1,32 @@
-//! The rule of a split as code: it goes from one place where keys part to the next, by comparing keys with one of them. It takes no memory.
-ghost use Rattle.std.specs.Prelude.{◌≡◌, ◌+◌, ◌*◌, ◌^◌, ◌<◌, ◌≤◌, [], IsTrue, length, slice_index_or, take};
+//! The rule of a split as code: it goes from one place where keys part to the next, by comparing
+//! keys with one of them. It takes no memory.
+ghost use Rattle.std.specs.Prelude.{◌≡◌, ◌+◌, ◌*◌, ◌^◌, ◌<◌, ◌≤◌, [], IsTrue, length};
+ghost use Rattle.std.specs.Prelude.{slice_index_or, take};
 ghost use Rattle.std.specs.List.{All};
 ghost use Rattle.ml_bits.specs.BitList.{Begins};
 ghost use Rattle.ml_split.specs.Splitting.{AreApart, IsSplit, count_under, fuller_half, half};
 ghost use Rattle.ml_term.specs.Patterns.{begins};
 
 use crate::Keys;
+use crate::limits::MAX_SPLIT_KEYS;
 use ml_bits::Bits;
 
-/// How many keys are looked at together at most: those of two regions of 31 items.
-pub(crate) const MOST_KEYS: usize = 62;
-
-/// Where keys are split: the new prefix is the first `bits` bits of the key at place `key`.
+// Where keys are split: the new prefix is the first `bits` bits of the key at place `key`.
 #[derive(Clone, Copy, Debug, PartialEq, Eq)]
 pub(crate) struct SplitPlace {
     pub(crate) key: usize,
     pub(crate) bits: usize,
 }
 
-/// The keys that go on with one bit behind a prefix: how many there are, and the place of one, if there is one.
+// The keys that go on with one bit behind a prefix: how many there are, and the place of one, if
+// there is one.
 #[derive(Clone, Copy)]
 struct Half {
     count: usize,
     key: usize,
 }
 
-/// Whether a key begins with the first `fork` bits of the guide and then has this bit.
+// Whether a key begins with the first `fork` bits of the guide and then has this bit.
 fn goes_on(key: &Bits, guide: &Bits, fork: usize, bit: bool) -> bool
     requires { fork ≤ length guide.now.bits }
     ensures { result ≡ begins (half (take fork guide.now.bits) bit) key.now.bits }
@@ -36,12 +37,15 @@ fn goes_on(key: &Bits, guide: &Bits, fork: usize, bit: bool) -> bool
     fork < key.len() && key.bit(fork) == bit
 }
 
-/// The keys that begin with the first `fork` bits of the guide and then have this bit.
+// The keys that begin with the first `fork` bits of the guide and then have this bit.
 fn half_of<K: Keys>(keys: &K, guide: &Bits, fork: usize, bit: bool) -> Half
     requires { fork ≤ length guide.now.bits }
-    ensures count { result.count ≡ count_under (half (take fork guide.now.bits) bit) (K.keys keys.now) }
+    ensures count { result.count ≡ count_under (half (take fork guide.now.bits) bit)
+        (K.keys keys.now) }
     ensures place { 0 < result.count → result.key < length (K.keys keys.now) }
-    ensures begins { 0 < result.count → IsTrue (begins (half (take fork guide.now.bits) bit) (slice_index_or (K.keys keys.now) result.key [])) }
+    ensures begins { 0 < result.count →
+        IsTrue (begins (half (take fork guide.now.bits) bit)
+        (slice_index_or (K.keys keys.now) result.key [])) }
 {
     let mut half = Half { count: 0, key: 0 };
     for i in 0..keys.len() {
@@ -53,14 +57,17 @@ fn half_of<K: Keys>(keys: &K, guide: &Bits, fork: usize, bit: bool) -> Half
     half
 }
 
-/// Those of the half with more keys behind the first `fork` bits of the guide, and of the 0 half where they are equal.
+// Those of the half with more keys behind the first `fork` bits of the guide, and of the 0 half
+// where they are equal.
 fn fuller_half_of<K: Keys>(keys: &K, guide: &Bits, fork: usize) -> Half
     requires { fork ≤ length guide.now.bits }
     ensures count { let front = take fork guide.now.bits in
-        result.count ≡ count_under (half front (fuller_half front (K.keys keys.now))) (K.keys keys.now) }
+        result.count ≡ count_under (half front (fuller_half front (K.keys keys.now)))
+        (K.keys keys.now) }
     ensures place { 0 < result.count → result.key < length (K.keys keys.now) }
     ensures begins { let front = take fork guide.now.bits in 0 < result.count →
-        IsTrue (begins (half front (fuller_half front (K.keys keys.now))) (slice_index_or (K.keys keys.now) result.key [])) }
+        IsTrue (begins (half front (fuller_half front (K.keys keys.now)))
+        (slice_index_or (K.keys keys.now) result.key [])) }
 {
     let zeros = half_of(keys, guide, fork, false);
     let ones = half_of(keys, guide, fork, true);
@@ -71,13 +78,14 @@ fn fuller_half_of<K: Keys>(keys: &K, guide: &Bits, fork: usize) -> Half
     }
 }
 
-/// How many bits those keys have in common that begin with the first `bits` bits of the guide.
+// How many bits those keys have in common that begin with the first `bits` bits of the guide.
 fn fork_of<K: Keys>(keys: &K, guide: &Bits, bits: usize) -> usize
     requires { bits ≤ length guide.now.bits }
     ensures from { bits ≤ result }
     ensures within { result ≤ length guide.now.bits }
     ensures fits { length guide.now.bits < 2 ^ 64 }
-    ensures count { count_under (take result guide.now.bits) (K.keys keys.now) ≡ count_under (take bits guide.now.bits) (K.keys keys.now) }
+    ensures count { count_under (take result guide.now.bits) (K.keys keys.now)
+        ≡ count_under (take bits guide.now.bits) (K.keys keys.now) }
 {
     let mut fork = guide.len();
     for i in 0..keys.len() {
@@ -89,16 +97,17 @@ fn fork_of<K: Keys>(keys: &K, guide: &Bits, bits: usize) -> usize
     fork
 }
 
-/// Where keys are split that begin with a prefix. It takes no memory.
+// Where keys are split that begin with a prefix. It takes no memory.
 pub(crate) fn split_place<K: Keys>(keys: &K, prefix: &Bits) -> SplitPlace
     requires some { 1 < length (K.keys keys.now) }
-    requires few { length (K.keys keys.now) ≤ MOST_KEYS }
+    requires few { length (K.keys keys.now) ≤ MAX_SPLIT_KEYS }
     requires apart { AreApart (K.keys keys.now) }
     requires begin { All (Begins prefix.now.bits) (K.keys keys.now) }
     ensures place { result.key < length (K.keys keys.now) }
     ensures longer { length prefix.now.bits < result.bits }
     ensures within { result.bits ≤ length (slice_index_or (K.keys keys.now) result.key []) }
-    ensures split { IsSplit (K.keys keys.now) prefix.now.bits (take result.bits (slice_index_or (K.keys keys.now) result.key [])) }
+    ensures split { IsSplit (K.keys keys.now) prefix.now.bits
+        (take result.bits (slice_index_or (K.keys keys.now) result.key [])) }
 {
     let mut guide = 0;
     let mut bits = prefix.len();

@@ -1,16 +1,17 @@
 //! The keys of a region, by their numbers.
 ghost use Rattle.std.specs.Prelude.{◌≤◌, length};
+ghost use Rattle.ml_region.specs.Limits.{page_items};
 
 use crate::keys::{Keys, key_at};
 use ml_bits::Bits;
 use ml_region::Item;
 
-/// The keys of the items of a region, and then a further one if it is given.
+// The keys of the items of a region, and then a further one if it is given.
 #[derive(Drop)]
 pub(crate) struct RegionKeys<'a> {
     pub(crate) items: &'a [Item],
     pub(crate) further: Option<&'a Bits>,
-    pub(crate) ghost few: { length items.now ≤ 31 },
+    pub(crate) ghost few: { length items.now ≤ page_items },
 }
 
 impl Keys for RegionKeys<'_> {

@@ -1,10 +1,10 @@
 //! Where a region is split, and its split.
-ghost use Rattle.std.specs.Prelude.{◌≡◌, ◌≢◌, ℕ, ◌<◌, ◌≤◌, length, take, IfOk, OnErr, OnOk};
+ghost use Rattle.std.specs.Prelude.{◌≡◌, ℕ, ◌<◌, ◌≤◌, length, IfOk, OnErr, OnOk};
 ghost use Rattle.std.specs.Option.{ForSome, option_copied};
 ghost use Rattle.ml_region.specs.Changes.{IsCut};
-ghost use Rattle.ml_region.specs.Prefixes.{bits_at};
-ghost use Rattle.ml_region.specs.Regions.{items_at, keys_at, region_at};
-ghost use Rattle.ml_split.specs.RegionSplits.{IsNewTo, keys_with};
+ghost use Rattle.ml_region.specs.Limits.{max_region_items};
+ghost use Rattle.ml_region.specs.Regions.{AreWithin, items_at, keys_at, region_at};
+ghost use Rattle.ml_split.specs.RegionSplits.{AreOthersWithin, IsNewTo, IsSplitPlace, keys_with};
 ghost use Rattle.ml_split.specs.Splitting.{IsFair, IsSplit};
 
 use crate::place::{SplitPlace, split_place};
@@ -13,7 +13,8 @@ use crate::{Keys, OutOfMemory};
 use ml_bits::Bits;
 use ml_region::{Directory, Regions};
 
-/// The prefix at which the keys of region `i` are split, and the further key if one is given, which region `i` would take in. They are over 24.
+/// The prefix at which the keys of region `i` are split, and the further key if one is given, which
+/// region `i` would take in. They are over 24.
 pub fn split_prefix<D: Directory>(
     regions: &Regions<D>,
     i: usize,
@@ -21,13 +22,16 @@ pub fn split_prefix<D: Directory>(
 ) -> Result<Bits, OutOfMemory>
     requires region { i < length regions.now.regions }
     requires new { ForSome (option_copied extra) (λ key. IsNewTo regions.now.regions i key.bits) }
-    requires many { 24 < length (keys_with (keys_at regions.now.regions i) (option_copied extra)) }
-    ensures split { let keys = keys_with (keys_at regions.now.regions i) (option_copied extra.entry) in
+    requires many { max_region_items
+        < length (keys_with (keys_at regions.now.regions i) (option_copied extra)) }
+    ensures split { let keys = keys_with (keys_at regions.now.regions i)
+        (option_copied extra.entry) in
         IfOk result (λ new. IsSplit keys (region_at regions.now.regions i).prefix new.bits) }
-    ensures fair { let keys = keys_with (keys_at regions.now.regions i) (option_copied extra.entry) in
+    ensures fair { let keys = keys_with (keys_at regions.now.regions i)
+        (option_copied extra.entry) in
         IfOk result (λ new. IsFair keys (region_at regions.now.regions i).prefix new.bits) }
 {
-    let _regions = regions.len();
+    let _well_placed = regions.len();
     let keys = RegionKeys {
         items: regions.items(i),
         further: extra,
@@ -36,37 +40,37 @@ pub fn split_prefix<D: Directory>(
     keys.key(place.key).prefix(place.bits)
 }
 
-/// Splits region `i`, which has over 24 items: cuts it at the prefix at which its keys are split, and gives that prefix. If no other region had over 24
-/// items, none has. After an error the regions are as they were.
+/// Splits region `i`, which has over 24 items: cuts it at the prefix at which its keys are split,
+/// and gives that prefix. If no other region had over 24 items, none has. After an error the
+/// regions are as they were.
 pub fn split<D: Directory>(regions: &mut Regions<D>, i: usize) -> Result<Bits, OutOfMemory>
     requires region { i < length regions.old.regions }
-    requires many { 24 < length (items_at regions.old.regions i) }
-    ensures split { IfOk result (λ new. IsSplit (keys_at regions.old.regions i) (region_at regions.old.regions i).prefix new.bits) }
-    ensures fair { IfOk result (λ new. IsFair (keys_at regions.old.regions i) (region_at regions.old.regions i).prefix new.bits) }
+    requires many { max_region_items < length (items_at regions.old.regions i) }
+    ensures split { IfOk result (λ new.
+        IsSplit (keys_at regions.old.regions i) (region_at regions.old.regions i).prefix new.bits) }
+    ensures fair { IfOk result (λ new.
+        IsFair (keys_at regions.old.regions i) (region_at regions.old.regions i).prefix new.bits) }
     ensures cut { IfOk result (λ new. IsCut regions.old.regions i new.bits regions.new.regions) }
-    ensures few { ((k : ℕ) → k < length regions.old.regions → k ≢ i → length (items_at regions.old.regions k) ≤ 24) →
-        OnOk result ((k : ℕ) → k < length regions.new.regions → length (items_at regions.new.regions k) ≤ 24) }
+    ensures few { AreOthersWithin max_region_items regions.old.regions i →
+        OnOk result (AreWithin max_region_items regions.new.regions) }
     ensures err { OnErr result (regions.new.regions ≡ regions.old.regions) }
     ensures room { regions.new.room ≡ regions.old.room }
 {
-    let _regions = regions.len();
+    let _well_placed = regions.len();
     let place = place_in(regions, i);
     let new = regions.item(i, place.key).key.prefix(place.bits)?;
     regions.cut(i, place.key, place.bits)?;
     Ok(new)
 }
 
-/// Where the keys of a region are split. It takes no memory.
+// Where the keys of a region are split. It takes no memory.
 fn place_in<D: Directory>(regions: &Regions<D>, i: usize) -> SplitPlace
     requires region { i < length regions.now.regions }
-    requires many { 24 < length (items_at regions.now.regions i) }
-    ensures item { result.key < length (items_at regions.now.regions i) }
-    ensures longer { length (region_at regions.now.regions i).prefix < result.bits }
-    ensures bits { result.bits ≤ length (bits_at (keys_at regions.now.regions i) result.key) }
-    ensures split { IsSplit (keys_at regions.now.regions i) (region_at regions.now.regions i).prefix (take result.bits (bits_at (keys_at regions.now.regions i) result.key)) }
-    ensures fair { IsFair (keys_at regions.now.regions i) (region_at regions.now.regions i).prefix (take result.bits (bits_at (keys_at regions.now.regions i) result.key)) }
+    requires many { max_region_items < length (items_at regions.now.regions i) }
+    ensures { IsSplitPlace regions.now.regions i result.key result.bits
+        (keys_at regions.now.regions i) (region_at regions.now.regions i).prefix }
 {
-    let _regions = regions.len();
+    let _well_placed = regions.len();
     let keys = RegionKeys {
         items: regions.items(i),
         further: None,

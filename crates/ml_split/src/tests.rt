@@ -7,7 +7,8 @@ ghost use Rattle.ml_region.specs.Regions.{IsApart, items_at, region_prefixes};
 ghost use Rattle.ml_split.specs.RegionSplits.{IsNewTo};
 ghost use Rattle.ml_split.specs.Splitting.{AreApart};
 
-use crate::place::{MOST_KEYS, split_place};
+use crate::limits::MAX_SPLIT_KEYS;
+use crate::place::split_place;
 use crate::{Keys, split, split_prefix};
 use ml_bits::{Bits, OutOfMemory};
 use ml_region::{Directory, Id, Item, PAGE_ITEMS, Regions, SortedDir};
@@ -16,7 +17,7 @@ use std::alloc::Global;
 use std::process::Abort;
 use std::test::Fail;
 
-/// Keys that stand in a slice.
+// Keys that stand in a slice.
 #[derive(Drop)]
 struct Listed<'a> {
     keys: &'a [Bits],
@@ -37,7 +38,7 @@ impl Keys for Listed<'_> {
     }
 }
 
-/// Whether no key begins another one.
+// Whether no key begins another one.
 fn are_apart<K: Keys>(keys: &K) -> bool
     ensures { IsTrue result → AreApart (K.keys keys.now) }
 {
@@ -51,7 +52,7 @@ fn are_apart<K: Keys>(keys: &K) -> bool
     true
 }
 
-/// Whether all keys begin with a prefix.
+// Whether all keys begin with a prefix.
 fn all_begin<K: Keys>(keys: &K, prefix: &Bits) -> bool
     ensures { IsTrue result → All (Begins prefix.now.bits) (K.keys keys.now) }
 {
@@ -63,13 +64,13 @@ fn all_begin<K: Keys>(keys: &K, prefix: &Bits) -> bool
     true
 }
 
-/// The code of a small number.
+// The code of a small number.
 fn code_of(alloc: Global, number: u8) -> Result<Bits, OutOfMemory> {
     let code = 0x6000_0000_0000_0000 + u64::from(number);
     Bits::from_bytes(alloc, &code.to_be_bytes(), 64)
 }
 
-/// The codes of the numbers from each first one up to the one before each second one.
+// The codes of the numbers from each first one up to the one before each second one.
 fn codes_of(alloc: Global, ranges: &[(u8, u8)]) -> Result<Vec<Bits>, OutOfMemory> {
     let mut keys = Vec::new(alloc);
     for (first, end) in ranges {
@@ -80,7 +81,8 @@ fn codes_of(alloc: Global, ranges: &[(u8, u8)]) -> Result<Vec<Bits>, OutOfMemory
     Ok(keys)
 }
 
-/// The numbers of the worked rows: how long the new prefix is, and a number whose code begins with it.
+// The numbers of the worked rows: how long the new prefix is, and a number whose code begins with
+// it.
 #[test]
 fn splits_codes_of_numbers(rt: HostRuntime) -> Result<(), Fail> {
     let alloc = rt.alloc();
@@ -91,7 +93,7 @@ fn splits_codes_of_numbers(rt: HostRuntime) -> Result<(), Fail> {
     let prefix = Bits::from_bytes(alloc, &[0b0110_0000], 3)?;
     for (keys, bits, member) in table {
         let listed = Listed { keys };
-        assert!(rt; listed.len() > 1 && listed.len() <= MOST_KEYS);
+        assert!(rt; listed.len() > 1 && listed.len() <= MAX_SPLIT_KEYS);
         assert!(rt; are_apart(&listed) && all_begin(&listed, &prefix));
         let place = split_place(&listed, &prefix);
         assert_eq!(rt; place.bits, bits);
@@ -104,7 +106,7 @@ fn splits_codes_of_numbers(rt: HostRuntime) -> Result<(), Fail> {
     Ok(())
 }
 
-/// Whether no item's key begins a key or begins with it.
+// Whether no item's key begins a key or begins with it.
 fn is_apart<D: Directory>(regions: &Regions<D>, key: &Bits) -> bool
     ensures { IsTrue result → IsApart regions.now.regions key.now.bits }
 {
@@ -119,9 +121,11 @@ fn is_apart<D: Directory>(regions: &Regions<D>, key: &Bits) -> bool
     true
 }
 
-/// Whether the region that owns a key has place for one more item.
+// Whether the region that owns a key has place for one more item.
 fn has_place<D: Directory>(regions: &Regions<D>, key: &Bits) -> bool
-    ensures { IsTrue result → (i : ℕ) → IsOwner (region_prefixes regions.now.regions) key.now.bits i → length (items_at regions.now.regions i) < PAGE_ITEMS }
+    ensures { IsTrue result → (i : ℕ) →
+        IsOwner (region_prefixes regions.now.regions) key.now.bits i →
+        length (items_at regions.now.regions i) < PAGE_ITEMS }
 {
     let owner = regions.owner_of(key);
     if owner >= regions.len() {
@@ -130,7 +134,7 @@ fn has_place<D: Directory>(regions: &Regions<D>, key: &Bits) -> bool
     regions.count(owner) < PAGE_ITEMS
 }
 
-/// Whether a region would take in a key.
+// Whether a region would take in a key.
 fn takes_in<D: Directory>(regions: &Regions<D>, i: usize, key: &Bits) -> bool
     ensures { IsTrue result → IsNewTo regions.now.regions i key.now.bits }
 {
@@ -140,7 +144,7 @@ fn takes_in<D: Directory>(regions: &Regions<D>, i: usize, key: &Bits) -> bool
     regions.owner_of(key) == i
 }
 
-/// Puts an item with a key into its region.
+// Puts an item with a key into its region.
 fn place(rt: &impl Abort, regions: &mut Regions<SortedDir>, key: Bits) {
     assert!(rt; is_apart(regions, &key));
     assert!(rt; has_place(regions, &key));
@@ -157,7 +161,7 @@ fn place(rt: &impl Abort, regions: &mut Regions<SortedDir>, key: Bits) {
     });
 }
 
-/// The prefix at which the region of the empty prefix, of 24 items, is split with a further key.
+// The prefix at which the region of the empty prefix, of 24 items, is split with a further key.
 fn prefix_with(
     rt: &impl Abort,
     regions: &Regions<SortedDir>,
@@ -169,7 +173,7 @@ fn prefix_with(
     split_prefix(regions, 0, Some(further))
 }
 
-/// The numbers from 0 to 23 with 24 as a further key: the prefix of the worked row.
+// The numbers from 0 to 23 with 24 as a further key: the prefix of the worked row.
 #[test]
 fn splits_a_region_with_a_further_key(rt: HostRuntime) -> Result<(), Fail> {
     let alloc = rt.alloc();
@@ -184,14 +188,14 @@ fn splits_a_region_with_a_further_key(rt: HostRuntime) -> Result<(), Fail> {
     Ok(())
 }
 
-/// Splits the region of the empty prefix.
+// Splits the region of the empty prefix.
 fn split_root(rt: &impl Abort, regions: &mut Regions<SortedDir>) -> Result<Bits, OutOfMemory> {
     assert!(rt; regions.len() > 0);
     assert!(rt; regions.count(0) > 24);
     split(regions, 0)
 }
 
-/// How many items each region has.
+// How many items each region has.
 fn counts(alloc: Global, regions: &Regions<SortedDir>) -> Result<Vec<usize>, OutOfMemory> {
     let mut found = Vec::new(alloc);
     for i in 0..regions.len() {
@@ -200,7 +204,7 @@ fn counts(alloc: Global, regions: &Regions<SortedDir>) -> Result<Vec<usize>, Out
     Ok(found)
 }
 
-/// The numbers from 0 to 24, and then those from 32 to 47: the regions of the worked rows.
+// The numbers from 0 to 24, and then those from 32 to 47: the regions of the worked rows.
 #[test]
 fn splits_regions(rt: HostRuntime) -> Result<(), Fail> {
     let alloc = rt.alloc();

@@ -31,7 +31,8 @@ one_bit_more x k = let e : suc k ≡ 1 + k = omega arith in ap (λ j. x % 2 ^ j)
 pub bits_compare_low : (k x y : ℕ) → slice_cmp bool_cmp (bits k x) (bits k y) ≡ nat_cmp (x % 2 ^ k) (y % 2 ^ k)
 bits_compare_low zero x y = sym (same (x % 2 ^ 0) (y % 2 ^ 0) (omega (arith, mod_below x 1 (omega arith), mod_below y 1 (omega arith))))
 bits_compare_low (suc k) x y =
-    ap (λ o. ordering_then o (slice_cmp bool_cmp (bits k x) (bits k y))) (bit_compare (x / 2 ^ k % 2) (y / 2 ^ k % 2) (mod_below _ 2 (omega arith)) (mod_below _ 2 (omega arith)))
+    ap (λ o. ordering_then o (slice_cmp bool_cmp (bits k x) (bits k y)))
+    (bit_compare (x / 2 ^ k % 2) (y / 2 ^ k % 2) (mod_below _ 2 (omega arith)) (mod_below _ 2 (omega arith)))
     ∙ ap (ordering_then (nat_cmp (x / 2 ^ k % 2) (y / 2 ^ k % 2))) (bits_compare_low k x y)
     ∙ digits_compare (2 ^ k) _ _ (x % 2 ^ k) (y % 2 ^ k) (mod_below x (2 ^ k) (pow_pos k)) (mod_below y (2 ^ k) (pow_pos k))
     ∙ ap (λ n. nat_cmp n (y / 2 ^ k % 2 * 2 ^ k + y % 2 ^ k)) (sym (one_bit_more x k))
@@ -65,7 +66,8 @@ abbrev pub are_bytes : List ℕ → Bool
 are_bytes = list_all (λ b. nat_lt b 256)
 
 -- the order of the bits of bytes is that of the bytes
-pub byte_bits_compare : (xs ys : List ℕ) → are_bytes xs ≡ true → are_bytes ys ≡ true → slice_cmp bool_cmp (byte_bits xs) (byte_bits ys) ≡ slice_cmp nat_cmp xs ys
+pub byte_bits_compare : (xs ys : List ℕ) → are_bytes xs ≡ true → are_bytes ys ≡ true →
+    slice_cmp bool_cmp (byte_bits xs) (byte_bits ys) ≡ slice_cmp nat_cmp xs ys
 byte_bits_compare [] [] p q = refl
 byte_bits_compare [] (y ∷ ys) p q = refl
 byte_bits_compare (x ∷ xs) [] p q = refl

@@ -1,5 +1,6 @@
 -- The canonical bytes of two terms: neither begin the other, and what follows them comes later.
-use Rattle.std.specs.Prelude.{◌≡◌, ◌≢◌, ℕ, zero, suc, ◌+◌, ◌*◌, ◌/◌, ◌%◌, ◌^◌, ◌==◌, ◌<◌, Bool, true, false, ◌||◌, not, ℤ, pos, negsuc, ◌⊎◌, List, [], ◌∷◌, ◌++◌, length}
+use Rattle.std.specs.Prelude.{◌≡◌, ◌≢◌, ℕ, zero, suc, ◌+◌, ◌*◌, ◌/◌, ◌%◌, ◌^◌, ◌==◌, ◌<◌, Bool, true, false, ◌||◌, not, ℤ, pos, negsuc, ◌⊎◌, List, [], ◌∷◌}
+use Rattle.std.specs.Prelude.{◌++◌, length}
 use Rattle.std.specs.declared.cmp.Ordering.{Ordering}
 use Rattle.std.specs.declared.cmp.Ordering.TheVariants.{Less, Equal, Greater}
 use Rattle.std.specs.Int.{bytes_high_first, byte_at}
@@ -12,7 +13,7 @@ use Rattle.std.proofs.lemmas.Bool.{ltb-true, ne_eqb, cases_eq, or_cases}
 use Rattle.std.proofs.lemmas.Bool.Decides.{nat_tests}
 use Rattle.std.proofs.lemmas.Nat.{mod_below}
 use Rattle.ml_term.specs.Tree.{Tree, Trees, variable, integer, atom, compound, no_trees, tree, arity}
-use Rattle.ml_term.specs.CanonicalBytes.{counted, name_bytes, bytes_of, bytes_of_all}
+use Rattle.ml_term.specs.CanonicalBytes.{counted_from_smallest, name_bytes, bytes_of, bytes_of_all}
 use Rattle.ml_term.specs.Valid.{is_in_range}
 use Rattle.ml_term.proofs.Orderings.{digits_compare, equal_numbers, same, regrouped}
 
@@ -89,8 +90,10 @@ settled_compounds f g ts us all (inr n) = different_firsts (arity ts) (arity us)
 mutual
   -- the bytes of two terms are the same or differ before either end
   pub settled_bytes : (t u : Tree) → settled (bytes_of t) (bytes_of u) ≡ true
-  settled_bytes (variable m) (variable n) = settled-same_length (bytes_high_first 4 m) (bytes_high_first 4 n) (length-bytes_high_first 4 m ∙ sym (length-bytes_high_first 4 n))
-  settled_bytes (integer y) (integer z) = settled-same_length (bytes_high_first 8 (counted y)) (bytes_high_first 8 (counted z)) (length-bytes_high_first 8 (counted y) ∙ sym (length-bytes_high_first 8 (counted z)))
+  settled_bytes (variable m) (variable n) = settled-same_length (bytes_high_first 4 m) (bytes_high_first 4 n)
+      (length-bytes_high_first 4 m ∙ sym (length-bytes_high_first 4 n))
+  settled_bytes (integer y) (integer z) = settled-same_length (bytes_high_first 8 (counted_from_smallest y)) (bytes_high_first 8 (counted_from_smallest z))
+      (length-bytes_high_first 8 (counted_from_smallest y) ∙ sym (length-bytes_high_first 8 (counted_from_smallest z)))
   settled_bytes (atom f) (atom g) = settled_names f g
   settled_bytes (compound f ts) (compound g us) = settled_compounds f g ts us (λ e. settled_bytes_of_all ts us e) (cases_eq (arity ts) (arity us))
   settled_bytes (variable n) (integer z) = refl
@@ -115,13 +118,15 @@ mutual
 
 -- the order of one more term's bytes
 pub trees_compare : (t u : Tree) (ts us : Trees)
-    → slice_cmp nat_cmp (bytes_of_all (tree t ts)) (bytes_of_all (tree u us)) ≡ ordering_then (slice_cmp nat_cmp (bytes_of t) (bytes_of u)) (slice_cmp nat_cmp (bytes_of_all ts) (bytes_of_all us))
+    → slice_cmp nat_cmp (bytes_of_all (tree t ts)) (bytes_of_all (tree u us))
+    ≡ ordering_then (slice_cmp nat_cmp (bytes_of t) (bytes_of u)) (slice_cmp nat_cmp (bytes_of_all ts) (bytes_of_all us))
 trees_compare t u ts us = settled_compare (bytes_of t) (bytes_of u) (bytes_of_all ts) (bytes_of_all us) (settled_bytes t u)
 
 -- the order of two compounds' bytes
 pub compounds_compare : (f g : List ℕ) (ts us : Trees)
     → slice_cmp nat_cmp (bytes_of (compound f ts)) (bytes_of (compound g us))
-    ≡ ordering_then (nat_cmp (arity ts) (arity us)) (ordering_then (slice_cmp nat_cmp (name_bytes f) (name_bytes g)) (slice_cmp nat_cmp (bytes_of_all ts) (bytes_of_all us)))
+    ≡ ordering_then (nat_cmp (arity ts) (arity us)) (ordering_then (slice_cmp nat_cmp (name_bytes f) (name_bytes g))
+    (slice_cmp nat_cmp (bytes_of_all ts) (bytes_of_all us)))
 compounds_compare f g ts us =
     ap (ordering_then (nat_cmp (arity ts) (arity us))) (settled_compare (name_bytes f) (name_bytes g) (bytes_of_all ts) (bytes_of_all us) (settled_names f g))
 
@@ -144,7 +149,8 @@ high_bytes_compare : (k x y : ℕ) → slice_cmp nat_cmp (bytes_high_first k x) 
 high_bytes_compare zero x y = sym (same (x % 256 ^ 0) (y % 256 ^ 0) (omega (arith, mod_below x 1 (omega arith), mod_below y 1 (omega arith))))
 high_bytes_compare (suc k) x y =
     ap (ordering_then (nat_cmp (byte_at k x) (byte_at k y))) (high_bytes_compare k x y)
-    ∙ digits_compare (256 ^ k) (byte_at k x) (byte_at k y) (x % 256 ^ k) (y % 256 ^ k) (mod_below x (256 ^ k) (byte_power k)) (mod_below y (256 ^ k) (byte_power k))
+    ∙ digits_compare (256 ^ k) (byte_at k x) (byte_at k y) (x % 256 ^ k) (y % 256 ^ k) (mod_below x (256 ^ k) (byte_power k))
+    (mod_below y (256 ^ k) (byte_power k))
     ∙ ap (λ n. nat_cmp n (byte_at k y * 256 ^ k + y % 256 ^ k)) (sym (one_byte_more k x))
     ∙ ap (nat_cmp (x % 256 ^ suc k)) (sym (one_byte_more k y))
 
@@ -154,11 +160,11 @@ variables_compare m n p q =
     let f : n % 256 ^ 4 ≡ n = mod-eq_of_lt q in
     high_bytes_compare 4 m n ∙ ap (λ k. nat_cmp k (n % 256 ^ 4)) e ∙ ap (nat_cmp m) f
 
-pub counted_below : (z : ℤ) → is_in_range z ≡ true → counted z < 2 ^ 62
+pub counted_below : (z : ℤ) → is_in_range z ≡ true → counted_from_smallest z < 2 ^ 62
 counted_below (pos n) e = omega (arith, ltb-true n 2305843009213693952 e)
 counted_below (negsuc n) e = omega (arith, ltb-true n 2305843009213693952 e)
 
-counted_compare : (y z : ℤ) → is_in_range y ≡ true → is_in_range z ≡ true → nat_cmp (counted y) (counted z) ≡ int_cmp y z
+counted_compare : (y z : ℤ) → is_in_range y ≡ true → is_in_range z ≡ true → nat_cmp (counted_from_smallest y) (counted_from_smallest z) ≡ int_cmp y z
 counted_compare (pos a) (pos b) p q = grind (arith, nat_tests)
 counted_compare (pos a) (negsuc b) p q = let within = ltb-true b 2305843009213693952 q in grind (arith, nat_tests)
 counted_compare (negsuc a) (pos b) p q = let within = ltb-true a 2305843009213693952 p in grind (arith, nat_tests)
@@ -171,6 +177,7 @@ pub integers_compare : (y z : ℤ) → is_in_range y ≡ true → is_in_range z 
 integers_compare y z p q =
     let below_y = counted_below y p in
     let below_z = counted_below z q in
-    let e : counted y % 256 ^ 8 ≡ counted y = mod-eq_of_lt (omega arith) in
-    let f : counted z % 256 ^ 8 ≡ counted z = mod-eq_of_lt (omega arith) in
-    high_bytes_compare 8 (counted y) (counted z) ∙ ap (λ k. nat_cmp k (counted z % 256 ^ 8)) e ∙ ap (nat_cmp (counted y)) f ∙ counted_compare y z p q
+    let e : counted_from_smallest y % 256 ^ 8 ≡ counted_from_smallest y = mod-eq_of_lt (omega arith) in
+    let f : counted_from_smallest z % 256 ^ 8 ≡ counted_from_smallest z = mod-eq_of_lt (omega arith) in
+    high_bytes_compare 8 (counted_from_smallest y) (counted_from_smallest z) ∙ ap (λ k. nat_cmp k (counted_from_smallest z % 256 ^ 8)) e
+    ∙ ap (nat_cmp (counted_from_smallest y)) f ∙ counted_compare y z p q

@@ -8,12 +8,12 @@ use Rattle.std.proofs.Common.{refl, sym, ap, ◌∙◌, arith, length-append}
 use Rattle.std.proofs.lemmas.Bool.{le-ltb, lt-ltb}
 use Rattle.std.proofs.lemmas.Bool.Decides.{nat_tests}
 use Rattle.std.proofs.lemmas.List.{map-append, length-map}
-use Rattle.ml_term.specs.Keys.{first_bit, interleaved}
+use Rattle.ml_term.specs.Keys.{first_bit, interleave}
 use Rattle.ml_term.proofs.Orderings.{slice_cmp-append}
 
 -- the order of n rows of some columns
 abbrev pub raced : ℕ → List (List Bool) → List (List Bool) → Ordering
-raced n cs ds = slice_cmp bool_cmp (interleaved n cs) (interleaved n ds)
+raced n cs ds = slice_cmp bool_cmp (interleave n cs) (interleave n ds)
 
 abbrev pub lead_after : Ordering → ℕ → ℕ
 lead_after Less k = 0
@@ -29,7 +29,7 @@ lead (suc n) cs ds = lead_after (slice_cmp bool_cmp (map first_bit cs) (map firs
 pub raced-suc : (n : ℕ) (cs ds : List (List Bool)) → length cs ≡ length ds
     → raced (suc n) cs ds ≡ ordering_then (slice_cmp bool_cmp (map first_bit cs) (map first_bit ds)) (raced n (map (drop 1) cs) (map (drop 1) ds))
 raced-suc n cs ds e =
-    slice_cmp-append bool_cmp (map first_bit cs) (map first_bit ds) (interleaved n (map (drop 1) cs)) (interleaved n (map (drop 1) ds))
+    slice_cmp-append bool_cmp (map first_bit cs) (map first_bit ds) (interleave n (map (drop 1) cs)) (interleave n (map (drop 1) ds))
     (length-map cs first_bit ∙ e ∙ sym (length-map ds first_bit))
 
 -- the two columns whose lead is less decide, and where it is the same the first of them
@@ -69,7 +69,8 @@ one_column_more (suc n) cs ds c d e =
     let p = slice_cmp bool_cmp (first_bit c ∷ []) (first_bit d ∷ []) in
     let row : slice_cmp bool_cmp (map first_bit (cs ++ c ∷ [])) (map first_bit (ds ++ d ∷ [])) ≡ ordering_then o p =
     rw (map-append first_bit cs (c ∷ []), map-append first_bit ds (d ∷ []))
-    (slice_cmp-append bool_cmp (map first_bit cs) (map first_bit ds) (first_bit c ∷ []) (first_bit d ∷ []) (length-map cs first_bit ∙ e ∙ sym (length-map ds first_bit))) in
+    (slice_cmp-append bool_cmp (map first_bit cs) (map first_bit ds) (first_bit c ∷ []) (first_bit d ∷ [])
+    (length-map cs first_bit ∙ e ∙ sym (length-map ds first_bit))) in
     let both : length (cs ++ c ∷ []) ≡ length (ds ++ d ∷ []) = omega (arith, length-append cs (c ∷ []), length-append ds (d ∷ [])) in
     let l = lead n (map (drop 1) cs) (map (drop 1) ds) in
     let m = lead n (drop 1 c ∷ []) (drop 1 d ∷ []) in
@@ -87,11 +88,12 @@ one_column_more (suc n) cs ds c d e =
           ∙ row_decides o p q r l m
           ∙ ap (λ x. sooner (lead_after o l) x (lead_after p m) (ordering_then p r)) (sym (raced-suc n cs ds e))
           ∙ ap (λ x. sooner (lead_after o l) (raced (suc n) cs ds) (lead_after p m) x) (sym (raced-suc n (c ∷ []) (d ∷ []) refl));
-      rows = ap (λ x. lead_after x (lead n (map (drop 1) (cs ++ c ∷ [])) (map (drop 1) (ds ++ d ∷ [])))) row ∙ ap (lead_after (ordering_then o p)) fewer ∙ row_leads o p l m;
+      rows = ap (λ x. lead_after x (lead n (map (drop 1) (cs ++ c ∷ [])) (map (drop 1) (ds ++ d ∷ [])))) row ∙ ap (lead_after (ordering_then o p)) fewer
+          ∙ row_leads o p l m;
     }
 
 -- one column alone is read as it stands
-pub interleaved_one : (n : ℕ) (c : List Bool) → length c ≡ n → interleaved n (c ∷ []) ≡ c
+pub interleaved_one : (n : ℕ) (c : List Bool) → length c ≡ n → interleave n (c ∷ []) ≡ c
 interleaved_one zero [] e = refl
 interleaved_one zero (b ∷ c) e = absurd (omega (arith, e))
 interleaved_one (suc n) [] e = absurd (omega (arith, e))
@@ -106,9 +108,17 @@ pub lead_of_none : (n : ℕ) → lead n [] [] ≡ n
 lead_of_none zero = refl
 lead_of_none (suc n) = omega (arith, lead_of_none n)
 
-pub length-interleaved : (n : ℕ) (cs ds : List (List Bool)) → length cs ≡ length ds → length (interleaved n cs) ≡ length (interleaved n ds)
+pub length-interleaved : (n : ℕ) (cs ds : List (List Bool)) → length cs ≡ length ds → length (interleave n cs) ≡ length (interleave n ds)
 length-interleaved zero cs ds e = refl
 length-interleaved (suc n) cs ds e =
-    let ih : length (interleaved n (map (drop 1) cs)) ≡ length (interleaved n (map (drop 1) ds)) =
+    let ih : length (interleave n (map (drop 1) cs)) ≡ length (interleave n (map (drop 1) ds)) =
     length-interleaved n (map (drop 1) cs) (map (drop 1) ds) (length-map cs (drop 1) ∙ e ∙ sym (length-map ds (drop 1))) in
-    omega (arith, ih, length-append (map first_bit cs) (interleaved n (map (drop 1) cs)), length-append (map first_bit ds) (interleaved n (map (drop 1) ds)), length-map cs first_bit, length-map ds first_bit, e)
+    omega (
+      arith,
+      ih,
+      length-append (map first_bit cs) (interleave n (map (drop 1) cs)),
+      length-append (map first_bit ds) (interleave n (map (drop 1) ds)),
+      length-map cs first_bit,
+      length-map ds first_bit,
+      e,
+    )

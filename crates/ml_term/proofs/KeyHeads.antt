@@ -10,11 +10,11 @@ use Rattle.std.proofs.lemmas.Bool.{lt-ltb, le-ltb}
 use Rattle.std.proofs.lemmas.List.{map-append, length-map}
 use Rattle.ml_term.specs.Tree.{Trees}
 use Rattle.ml_term.specs.Codes.{bits, code}
-use Rattle.ml_term.specs.Keys.{argument, interleaved}
-use Rattle.ml_term.specs.KeyHeads.{keyed_codes}
+use Rattle.ml_term.specs.Keys.{argument, interleave}
+use Rattle.ml_term.specs.inside.KeyHeads.{keyed_codes}
 use Rattle.ml_term.proofs.Bits.{bits_compare, length-bits}
 use Rattle.ml_term.proofs.Interleaving.{raced, lead, HasColumn, one_column_more, interleaved_one, no_column, lead_of_none}
-use Rattle.ml_term.proofs.Leads.{lead_is_zeros}
+use Rattle.ml_term.proofs.LeadingZeros.{lead_is_zeros}
 
 keyed_codes-append : (keys : List ℕ) (k : ℕ) (ts : Trees) → keyed_codes (keys ++ k ∷ []) ts ≡ keyed_codes keys ts ++ code (argument k ts) ∷ []
 keyed_codes-append keys k ts =
@@ -42,7 +42,7 @@ one_alone : (n k : ℕ) (ts us : Trees) (x y : ℕ) → IsCoded n k ts us x y �
 one_alone n k ts us x y h =
     ap (λ c. raced n (c ∷ []) (code (argument k us) ∷ [])) (sym h.first)
     ∙ ap (λ d. raced n (bits n x ∷ []) (d ∷ [])) (sym h.second)
-    ∙ ap (λ c. slice_cmp bool_cmp c (interleaved n (bits n y ∷ []))) (interleaved_one n (bits n x) (length-bits n x))
+    ∙ ap (λ c. slice_cmp bool_cmp c (interleave n (bits n y ∷ []))) (interleaved_one n (bits n x) (length-bits n x))
     ∙ ap (slice_cmp bool_cmp (bits n x)) (interleaved_one n (bits n y) (length-bits n y))
     ∙ bits_compare n x y h.first_fits h.second_fits
 
@@ -53,7 +53,8 @@ lead_alone n k ts us x y h =
     ∙ ap (λ d. lead n (bits n x ∷ []) (d ∷ [])) (sym h.second)
     ∙ lead_is_zeros n x y h.first_fits h.second_fits
 
-pub one_key_more : (n k : ℕ) (keys : List ℕ) (ts us : Trees) (x y rows zeros : ℕ) (order : Ordering) → IsCoded n k ts us x y → zeros ≡ count_leading_zeros n (bit_xor x y)
+pub one_key_more : (n k : ℕ) (keys : List ℕ) (ts us : Trees) (x y rows zeros : ℕ) (order : Ordering) → IsCoded n k ts us x y →
+    zeros ≡ count_leading_zeros n (bit_xor x y)
     → IsAhead n keys ts us rows order → IsAhead n (keys ++ k ∷ []) ts us (min rows zeros) (cond (nat_lt zeros rows) (nat_cmp x y) order)
 one_key_more n k keys ts us x y rows zeros order coded counted ahead =
     let cs = keyed_codes keys ts in
@@ -81,18 +82,22 @@ one_key_more n k keys ts us x y rows zeros order coded counted ahead =
     }
 
 -- the key's word comes first
-pub key_decides : (n k : ℕ) (keys : List ℕ) (ts us : Trees) (x y rows zeros : ℕ) (order : Ordering) → IsCoded n k ts us x y → zeros ≡ count_leading_zeros n (bit_xor x y)
+pub key_decides : (n k : ℕ) (keys : List ℕ) (ts us : Trees) (x y rows zeros : ℕ) (order : Ordering) → IsCoded n k ts us x y →
+    zeros ≡ count_leading_zeros n (bit_xor x y)
     → zeros < rows → IsAhead n keys ts us rows order → IsAhead n (keys ++ k ∷ []) ts us zeros (nat_cmp x y)
 key_decides n k keys ts us x y rows zeros order coded counted below ahead =
-    let h : IsAhead n (keys ++ k ∷ []) ts us (min rows zeros) (cond (nat_lt zeros rows) (nat_cmp x y) order) = one_key_more n k keys ts us x y rows zeros order coded counted ahead in
+    let h : IsAhead n (keys ++ k ∷ []) ts us (min rows zeros) (cond (nat_lt zeros rows) (nat_cmp x y) order) =
+    one_key_more n k keys ts us x y rows zeros order coded counted ahead in
     let e : min rows zeros ≡ zeros = omega arith in
     record { same = sym e ∙ h.same; decided = sym (ap (λ b. cond b (nat_cmp x y) order) (lt-ltb zeros rows below)) ∙ h.decided }
 
 -- the keys before it come first
-pub key_follows : (n k : ℕ) (keys : List ℕ) (ts us : Trees) (x y rows zeros : ℕ) (order : Ordering) → IsCoded n k ts us x y → zeros ≡ count_leading_zeros n (bit_xor x y)
+pub key_follows : (n k : ℕ) (keys : List ℕ) (ts us : Trees) (x y rows zeros : ℕ) (order : Ordering) → IsCoded n k ts us x y →
+    zeros ≡ count_leading_zeros n (bit_xor x y)
     → rows ≤ zeros → IsAhead n keys ts us rows order → IsAhead n (keys ++ k ∷ []) ts us rows order
 key_follows n k keys ts us x y rows zeros order coded counted above ahead =
-    let h : IsAhead n (keys ++ k ∷ []) ts us (min rows zeros) (cond (nat_lt zeros rows) (nat_cmp x y) order) = one_key_more n k keys ts us x y rows zeros order coded counted ahead in
+    let h : IsAhead n (keys ++ k ∷ []) ts us (min rows zeros) (cond (nat_lt zeros rows) (nat_cmp x y) order) =
+    one_key_more n k keys ts us x y rows zeros order coded counted ahead in
     let e : min rows zeros ≡ rows = omega arith in
     record { same = sym e ∙ h.same; decided = sym (ap (λ b. cond b (nat_cmp x y) order) (le-ltb zeros rows above)) ∙ h.decided }
 

@@ -8,7 +8,7 @@ use Rattle.std.proofs.lemmas.Bool.{ltb-true}
 use Rattle.std.proofs.lemmas.Nat.{from_be_bytes-to_be_bytes_4, from_be_bytes-to_be_bytes_8}
 use Rattle.ml_term.specs.Tree.{Tree, Trees, variable, integer, atom, compound, no_trees, tree, arity}
 use Rattle.ml_term.specs.Valid.{is_in_range, is_valid, are_valid}
-use Rattle.ml_term.specs.CanonicalBytes.{counted, name_bytes, bytes_of, bytes_of_all}
+use Rattle.ml_term.specs.CanonicalBytes.{counted_from_smallest, name_bytes, bytes_of, bytes_of_all}
 use Rattle.ml_term.specs.Codes.{bits, byte_bits}
 use Rattle.ml_term.specs.Keys.{key_head, tuple_key, clause_key}
 use Rattle.ml_term.specs.Patterns.{same_bit, begins}
@@ -16,8 +16,8 @@ use Rattle.ml_term.proofs.Bits.{are_bytes, bits_compare}
 use Rattle.ml_term.proofs.Orderings.{equal_numbers, same}
 use Rattle.ml_term.proofs.CanonicalOrder.{counted_below}
 use Rattle.ml_term.proofs.ValidBytes.{valid_bytes}
-use Rattle.ml_term.proofs.Columns.{and_first, and_second, same_bit_equal}
-use Rattle.ml_term.proofs.Fitting.{length_of_bits, length_of_key_head}
+use Rattle.ml_term.proofs.KeyColumns.{and_first, and_second, same_bit_equal}
+use Rattle.ml_term.proofs.FittingKeys.{length_of_bits, length_of_key_head}
 
 -- lists of one length that begin two equal ones are equal, and so is what follows
 pub same_parts : (xs ys zs ws : List ℕ) → length xs ≡ length ys → xs ++ zs ≡ ys ++ ws → (xs ≡ ys) × (zs ≡ ws)
@@ -29,7 +29,7 @@ same_parts (x ∷ xs) (y ∷ ys) zs ws l e = let p = same_parts xs ys zs ws (ome
 names_parts : (f g zs ws : List ℕ) → name_bytes f ++ zs ≡ name_bytes g ++ ws → (f ≡ g) × (zs ≡ ws)
 names_parts f g zs ws e = same_parts f g zs ws (cc e) (cc e)
 
-counted_equal : (y z : ℤ) → is_in_range y ≡ true → is_in_range z ≡ true → counted y ≡ counted z → y ≡ z
+counted_equal : (y z : ℤ) → is_in_range y ≡ true → is_in_range z ≡ true → counted_from_smallest y ≡ counted_from_smallest z → y ≡ z
 counted_equal (pos m) (pos n) p q e = ap pos (omega (arith, e))
 counted_equal (pos m) (negsuc n) p q e = absurd (omega (arith, e))
 counted_equal (negsuc m) (pos n) p q e = absurd (omega (arith, e))
@@ -38,10 +38,12 @@ counted_equal (negsuc m) (negsuc n) p q e = ap negsuc (omega (arith, e, ltb-true
 variables_equal : (m n : ℕ) → m < 2 ^ 32 → n < 2 ^ 32 → to_be_bytes w32 m ≡ to_be_bytes w32 n → m ≡ n
 variables_equal m n p q e = sym (from_be_bytes-to_be_bytes_4 m p) ∙ (ap (from_be_bytes w32) e ∙ from_be_bytes-to_be_bytes_4 n q)
 
-integers_equal : (y z : ℤ) → is_in_range y ≡ true → is_in_range z ≡ true → to_be_bytes w64 (counted y) ≡ to_be_bytes w64 (counted z) → y ≡ z
+integers_equal : (y z : ℤ) → is_in_range y ≡ true → is_in_range z ≡ true →
+    to_be_bytes w64 (counted_from_smallest y) ≡ to_be_bytes w64 (counted_from_smallest z) → y ≡ z
 integers_equal y z p q e =
     counted_equal y z p q
-    (sym (from_be_bytes-to_be_bytes_8 (counted y) (omega (arith, counted_below y p))) ∙ (ap (from_be_bytes w64) e ∙ from_be_bytes-to_be_bytes_8 (counted z) (omega (arith, counted_below z q))))
+    (sym (from_be_bytes-to_be_bytes_8 (counted_from_smallest y) (omega (arith, counted_below y p)))
+    ∙ (ap (from_be_bytes w64) e ∙ from_be_bytes-to_be_bytes_8 (counted_from_smallest z) (omega (arith, counted_below z q))))
 
 valid_name : (f : List ℕ) (ts : Trees) → is_valid (compound f ts) ≡ true → are_valid ts ≡ true
 valid_name f ts h = and_second _ (are_valid ts) h
@@ -52,12 +54,15 @@ mutual
   read_alike (variable m) (variable n) zs ws p q e =
       let s = same_parts (to_be_bytes w32 m) (to_be_bytes w32 n) zs ws refl (cc e) in
       (ap variable (variables_equal m n (ltb-true m (2 ^ 32) p) (ltb-true n (2 ^ 32) q) s.0), s.1)
-  read_alike (integer y) (integer z) zs ws p q e = let s = same_parts (to_be_bytes w64 (counted y)) (to_be_bytes w64 (counted z)) zs ws refl (cc e) in (ap integer (integers_equal y z p q s.0), s.1)
+  read_alike (integer y) (integer z) zs ws p q e = let s =
+      same_parts (to_be_bytes w64 (counted_from_smallest y)) (to_be_bytes w64 (counted_from_smallest z)) zs ws refl (cc e) in
+      (ap integer (integers_equal y z p q s.0), s.1)
   read_alike (atom f) (atom g) zs ws p q e = let s = names_parts f g zs ws (cc e) in (ap atom s.0, s.1)
   read_alike (compound f ts) (compound g us) zs ws p q e =
       let a : arity ts ≡ arity us = cc e in
       let r : (name_bytes f ++ bytes_of_all ts) ++ zs ≡ (name_bytes g ++ bytes_of_all us) ++ ws = cc e in
-      let s = names_parts f g (bytes_of_all ts ++ zs) (bytes_of_all us ++ ws) (sym (append_assoc (name_bytes f) (bytes_of_all ts) zs) ∙ (r ∙ append_assoc (name_bytes g) (bytes_of_all us) ws)) in
+      let s = names_parts f g (bytes_of_all ts ++ zs) (bytes_of_all us ++ ws)
+      (sym (append_assoc (name_bytes f) (bytes_of_all ts) zs) ∙ (r ∙ append_assoc (name_bytes g) (bytes_of_all us) ws)) in
       let o = read_all_alike ts us zs ws a (valid_name f ts p) (valid_name g us q) s.1 in
       (rw (s.0, o.0) refl, o.1)
   read_alike (variable m) (integer z) zs ws p q e = absurd (cc e)
@@ -73,7 +78,8 @@ mutual
   read_alike (compound f ts) (integer z) zs ws p q e = absurd (cc e)
   read_alike (compound f ts) (atom g) zs ws p q e = absurd (cc e)
 
-  pub read_all_alike : (ts us : Trees) (zs ws : List ℕ) → arity ts ≡ arity us → are_valid ts ≡ true → are_valid us ≡ true → bytes_of_all ts ++ zs ≡ bytes_of_all us ++ ws → (ts ≡ us) × (zs ≡ ws)
+  pub read_all_alike : (ts us : Trees) (zs ws : List ℕ) → arity ts ≡ arity us → are_valid ts ≡ true → are_valid us ≡ true →
+      bytes_of_all ts ++ zs ≡ bytes_of_all us ++ ws → (ts ≡ us) × (zs ≡ ws)
   read_all_alike no_trees no_trees zs ws a p q e = (refl, e)
   read_all_alike no_trees (tree u us) zs ws a p q e = absurd (omega arith)
   read_all_alike (tree t ts) no_trees zs ws a p q e = absurd (omega arith)
@@ -97,10 +103,14 @@ begins_equal : (xs ys : List Bool) → length xs ≡ length ys → begins xs ys 
 begins_equal [] [] l e = refl
 begins_equal [] (y ∷ ys) l e = absurd (omega arith)
 begins_equal (x ∷ xs) [] l e = absurd (omega arith)
-begins_equal (x ∷ xs) (y ∷ ys) l e = rw (same_bit_equal x y (and_first (same_bit x y) (begins xs ys) e), begins_equal xs ys (omega arith) (and_second (same_bit x y) (begins xs ys) e)) refl
+begins_equal (x ∷ xs) (y ∷ ys) l e = rw (
+  same_bit_equal x y (and_first (same_bit x y) (begins xs ys) e),
+  begins_equal xs ys (omega arith) (and_second (same_bit x y) (begins xs ys) e),
+) refl
 
 equal_bits : (k v w : ℕ) → v < 2 ^ k → w < 2 ^ k → bits k v ≡ bits k w → v ≡ w
-equal_bits k v w p q e = equal_numbers v w (sym (bits_compare k v w p q) ∙ (ap (λ z. slice_cmp bool_cmp z (bits k w)) e ∙ (bits_compare k w w q q ∙ same w w refl)))
+equal_bits k v w p q e = equal_numbers v w (sym (bits_compare k v w p q)
+    ∙ (ap (λ z. slice_cmp bool_cmp z (bits k w)) e ∙ (bits_compare k w w q q ∙ same w w refl)))
 
 put_before : (x y : ℕ) (xs ys : List ℕ) → x ≡ y → xs ≡ ys → x ∷ xs ≡ y ∷ ys
 put_before x y xs ys p q = rw (p, q) refl

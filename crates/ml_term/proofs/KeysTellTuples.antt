@@ -10,7 +10,7 @@ use Rattle.ml_term.specs.Tree.{Tree, Trees, variable, integer, atom, compound, n
 use Rattle.ml_term.specs.CanonicalBytes.{name_bytes, bytes_of, bytes_of_all}
 use Rattle.ml_term.specs.Codes.{bits, byte_bits}
 use Rattle.ml_term.specs.Keys.{arguments, tuple_key, clause_key}
-use Rattle.ml_term.specs.KeyHeads.{head_of}
+use Rattle.ml_term.specs.inside.KeyHeads.{key_head_of}
 use Rattle.ml_term.specs.Patterns.{begins, same_bit}
 use Rattle.ml_term.specs.Valid.{is_valid, are_valid}
 use Rattle.ml_term.proofs.Orderings.{equal_numbers, same}
@@ -89,7 +89,8 @@ mutual
   pub bytes_tell : (t u : Tree) → is_valid t ≡ true → is_valid u ≡ true → bytes_of t ≡ bytes_of u → t ≡ u
   bytes_tell (variable m) (variable n) p q e =
       ap variable (equal_numbers m n
-      (sym (variables_compare m n (ltb-true m 4294967296 p) (ltb-true n 4294967296 q)) ∙ ap (slice_cmp nat_cmp (bytes_of (variable m))) (sym e) ∙ same_bytes_compare (bytes_of (variable m))))
+      (sym (variables_compare m n (ltb-true m 4294967296 p) (ltb-true n 4294967296 q)) ∙ ap (slice_cmp nat_cmp (bytes_of (variable m))) (sym e)
+      ∙ same_bytes_compare (bytes_of (variable m))))
   bytes_tell (integer y) (integer z) p q e =
       ap integer (exact_signed y z
       (sym (integers_compare y z p q) ∙ ap (slice_cmp nat_cmp (bytes_of (integer y))) (sym e) ∙ same_bytes_compare (bytes_of (integer y))))
@@ -140,18 +141,21 @@ begun_by (b ∷ bs) (c ∷ cs) e =
     one false false e = refl
 
 -- keys with anything after them
-pub tuple_keys_tell : (keys : List ℕ) (t u : Tree) (xs ys : List Bool) → is_valid t ≡ true → is_valid u ≡ true → tuple_key keys t ++ xs ≡ tuple_key keys u ++ ys → t ≡ u
+pub tuple_keys_tell : (keys : List ℕ) (t u : Tree) (xs ys : List Bool) → is_valid t ≡ true → is_valid u ≡ true →
+    tuple_key keys t ++ xs ≡ tuple_key keys u ++ ys → t ≡ u
 tuple_keys_tell keys t u xs ys p q e =
-    let grouped : head_of keys (arguments t) ++ (byte_bits (bytes_of t) ++ xs) ≡ head_of keys (arguments u) ++ (byte_bits (bytes_of u) ++ ys) =
-    sym (append_assoc (head_of keys (arguments t)) (byte_bits (bytes_of t)) xs) ∙ e ∙ append_assoc (head_of keys (arguments u)) (byte_bits (bytes_of u)) ys in
-    let tails = (parted (head_of keys (arguments t)) (head_of keys (arguments u)) _ _ (length-head_of keys t u) grouped).1 in
+    let grouped : key_head_of keys (arguments t) ++ (byte_bits (bytes_of t) ++ xs) ≡ key_head_of keys (arguments u) ++ (byte_bits (bytes_of u) ++ ys) =
+    sym (append_assoc (key_head_of keys (arguments t)) (byte_bits (bytes_of t)) xs) ∙ e
+    ∙ append_assoc (key_head_of keys (arguments u)) (byte_bits (bytes_of u)) ys in
+    let tails = (parted (key_head_of keys (arguments t)) (key_head_of keys (arguments u)) _ _ (length-head_of keys t u) grouped).1 in
     bytes_tell t u p q (parted_bits (bytes_of t) (bytes_of u) xs ys (settled_bytes t u) (valid_bytes t p) (valid_bytes u q) tails)
 
-pub clause_keys_tell : (keys : List ℕ) (t u : Tree) (m n : ℕ) (xs ys : List Bool) → m < 2 ^ 64 → n < 2 ^ 64 → clause_key keys t m ++ xs ≡ clause_key keys u n ++ ys → m ≡ n
+pub clause_keys_tell : (keys : List ℕ) (t u : Tree) (m n : ℕ) (xs ys : List Bool) → m < 2 ^ 64 → n < 2 ^ 64 →
+    clause_key keys t m ++ xs ≡ clause_key keys u n ++ ys → m ≡ n
 clause_keys_tell keys t u m n xs ys p q e =
-    let grouped : head_of keys (arguments t) ++ (bits 64 m ++ xs) ≡ head_of keys (arguments u) ++ (bits 64 n ++ ys) =
-    sym (append_assoc (head_of keys (arguments t)) (bits 64 m) xs) ∙ e ∙ append_assoc (head_of keys (arguments u)) (bits 64 n) ys in
-    let tails = (parted (head_of keys (arguments t)) (head_of keys (arguments u)) _ _ (length-head_of keys t u) grouped).1 in
+    let grouped : key_head_of keys (arguments t) ++ (bits 64 m ++ xs) ≡ key_head_of keys (arguments u) ++ (bits 64 n ++ ys) =
+    sym (append_assoc (key_head_of keys (arguments t)) (bits 64 m) xs) ∙ e ∙ append_assoc (key_head_of keys (arguments u)) (bits 64 n) ys in
+    let tails = (parted (key_head_of keys (arguments t)) (key_head_of keys (arguments u)) _ _ (length-head_of keys t u) grouped).1 in
     bits_tell 64 m n p q (parted (bits 64 m) (bits 64 n) xs ys (length-bits 64 m ∙ sym (length-bits 64 n)) tails).0
 
 -- lists of bits with one place in their order

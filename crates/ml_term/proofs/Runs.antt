@@ -3,7 +3,7 @@ use Rattle.std.specs.Prelude.{◌≡◌, ℕ, zero, suc, ◌<◌, ◌≤◌, ◌
 use Rattle.std.proofs.Common.{inl, inr, refl, sym, ap, subst, arith}
 use Rattle.std.proofs.Math.Path.{path_j, subst_refl}
 use Rattle.std.proofs.lemmas.Bool.{ltb-true, ltb-false}
-use Rattle.ml_term.specs.Runs.{Next, now, ask, on, followed, run_within, run_below, run}
+use Rattle.ml_term.specs.Runs.{Next, now, ask, result_or, follow_turn, run_within, run_below, run}
 use Rattle.ml_term.specs.Falling.{FallsTo, FallsBelow, Falls, AlwaysFalls, HoldsNext, HoldsAfter}
 
 module _ {S R : Type 0} (turn : S → Next S R) where
@@ -49,7 +49,8 @@ module _ {S R : Type 0} (turn : S → Next S R) where
   turns_moved {x = x} {r = r} e g = path_j (λ y p. turns_go (subst (λ z. Goes z r) p g) ≡ turns_go g) (ap turns_go (subst_refl (λ z. Goes z r) g)) e
 
   follow_moved : {x y : Next S R} {r : R} (e : x ≡ y) (g : Follows x r) → turns_follow (subst (λ z. Follows z r) e g) ≡ turns_follow g
-  follow_moved {x = x} {r = r} e g = path_j (λ y p. turns_follow (subst (λ z. Follows z r) p g) ≡ turns_follow g) (ap turns_follow (subst_refl (λ z. Follows z r) g)) e
+  follow_moved {x = x} {r = r} e g = path_j (λ y p. turns_follow (subst (λ z. Follows z r) p g) ≡ turns_follow g)
+      (ap turns_follow (subst_refl (λ z. Follows z r) g)) e
 
   mutual
     pub same_run : {s : S} {r r' : R} (h : Runs s r) (h' : Runs s r') → turns_run h ≡ turns_run h'
@@ -83,18 +84,21 @@ module _ {S R : Type 0} (turn : S → Next S R) where
     abbrev pub GoodBelow : ℕ → (S → R) → Type 0
     GoodBelow n f = (s : S) → first s < n → Good s (f s)
 
-    go_on : (lower : S → R) (s : S) → GoodBelow (first s) lower → (x : R ⊎ S) → FallsInBelow s x → Goes x (on turn first second never lower x) × (last (on turn first second never lower x) ≤ first s)
+    go_on : (lower : S → R) (s : S) → GoodBelow (first s) lower → (x : R ⊎ S) → FallsInBelow s x →
+        Goes x (result_or turn first second never lower x) × (last (result_or turn first second never lower x) ≤ first s)
     go_on lower s g (inl r) f = (over, f)
     go_on lower s g (inr t) f = let h = g t f in (goes h.0, omega arith)
 
-    go_test : (lower again : S → R) (s : S) → GoodBelow (first s) lower → (t : S) → ((first t ≡ first s) → second t < second s → Good t (again t)) → FallsInTo s (inr t)
+    go_test : (lower again : S → R) (s : S) → GoodBelow (first s) lower → (t : S) → ((first t ≡ first s) → second t < second s → Good t (again t)) →
+        FallsInTo s (inr t)
         → (b : Bool) → nat_lt (first t) (first s) ≡ b → GoodFrom s (now (inr t)) (elim b [ true ↦ lower t | false ↦ again t ])
     go_test lower again s g t a f true e = let h = g t (ltb-true _ _ e) in (at_once (goes h.0), omega arith)
     go_test lower again s g t a (inl f) false e = absurd (omega (arith, ltb-false _ _ e))
     go_test lower again s g t a (inr f) false e = let h = a f.0 f.1 in (at_once (goes h.0), omega arith)
 
-    follow : (lower again : S → R) (s : S) → GoodBelow (first s) lower → ((t : S) → (first t ≡ first s) → second t < second s → Good t (again t)) → (x : Next S R) → FallsIn s x
-        → GoodFrom s x (followed turn first second never lower again (first s) x)
+    follow : (lower again : S → R) (s : S) → GoodBelow (first s) lower → ((t : S) → (first t ≡ first s) → second t < second s → Good t (again t)) →
+        (x : Next S R) → FallsIn s x
+        → GoodFrom s x (follow_turn turn first second never lower again (first s) x)
     follow lower again s g a (now (inl r)) f = (at_once over, f)
     follow lower again s g a (now (inr t)) f = go_test lower again s g t (a t) f (nat_lt (first t) (first s)) refl
     follow lower again s g a (ask t k) f =
@@ -103,10 +107,12 @@ module _ {S R : Type 0} (turn : S → Next S R) where
         (asked (lower t) h.0 h'.0, h'.1)
 
     module _ (falls : AlwaysFalls first second last turn) where
-      within : (lower : S → R) (n : ℕ) → GoodBelow n lower → (m : ℕ) (s : S) → first s ≡ n → second s < m → Good s (run_within turn first second never lower m s)
+      within : (lower : S → R) (n : ℕ) → GoodBelow n lower → (m : ℕ) (s : S) → first s ≡ n → second s < m →
+          Good s (run_within turn first second never lower m s)
       within lower n g zero s e h = absurd (omega arith)
       within lower n g (suc m) s e h =
-          let r = follow lower (run_within turn first second never lower m) s (λ t l. g t (omega arith)) (λ t p l. within lower n g m t (omega arith) (omega arith)) (turn s) (falls s) in
+          let r = follow lower (run_within turn first second never lower m) s (λ t l. g t (omega arith))
+          (λ t p l. within lower n g m t (omega arith) (omega arith)) (turn s) (falls s) in
           (turned r.0, r.1)
 
       pub below : (n : ℕ) → GoodBelow n (run_below turn first second never n)
@@ -139,13 +145,14 @@ module _ {S R : Type 0} (turn : S → Next S R) where
       pub run_over : (s : S) (r : R) → turn s ≡ now (inl r) → run turn first second never s ≡ r
       run_over s r e = run_is s _ (turned (subst (λ x. Follows x r) (sym e) (at_once over)))
 
-      pub run_asks : (s t : S) (k : R → R ⊎ S) → turn s ≡ ask t k → run turn first second never s ≡ on turn first second never (run turn first second never) (k (run turn first second never t))
+      pub run_asks : (s t : S) (k : R → R ⊎ S) → turn s ≡ ask t k →
+          run turn first second never s ≡ result_or turn first second never (run turn first second never) (k (run turn first second never t))
       run_asks s t k e =
           let f = run turn first second never in
-          let r = on turn first second never f (k (f t)) in
+          let r = result_or turn first second never f (k (f t)) in
           run_is s r (turned (subst (λ x. Follows x r) (sym e) (asked (f t) (runs t) (onward (k (f t))))))
         where
-          onward : (x : R ⊎ S) → Goes x (on turn first second never (run turn first second never) x)
+          onward : (x : R ⊎ S) → Goes x (result_or turn first second never (run turn first second never) x)
           onward (inl r) = over
           onward (inr u) = goes (runs u)
 

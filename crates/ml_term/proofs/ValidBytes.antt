@@ -7,7 +7,7 @@ use Rattle.std.proofs.lemmas.Bool.{and_parts, and_from, or_cases, leb-true, lt-l
 use Rattle.std.proofs.lemmas.Nat.{mod_below}
 use Rattle.ml_term.specs.Names.{is_name, is_name_byte}
 use Rattle.ml_term.specs.Tree.{Tree, Trees, variable, integer, atom, compound, no_trees, tree, arity}
-use Rattle.ml_term.specs.CanonicalBytes.{counted, name_bytes, bytes_of, bytes_of_all}
+use Rattle.ml_term.specs.CanonicalBytes.{counted_from_smallest, name_bytes, bytes_of, bytes_of_all}
 use Rattle.ml_term.specs.Valid.{is_valid, are_valid}
 use Rattle.ml_term.proofs.Bits.{are_bytes}
 use Rattle.ml_term.proofs.CanonicalOrder.{byte_at_is}
@@ -40,14 +40,15 @@ name_bytes_fit f e =
 mutual
   pub valid_bytes : (t : Tree) → is_valid t ≡ true → are_bytes (bytes_of t) ≡ true
   valid_bytes (variable n) e = number_bytes 4 n
-  valid_bytes (integer z) e = number_bytes 8 (counted z)
+  valid_bytes (integer z) e = number_bytes 8 (counted_from_smallest z)
   valid_bytes (atom f) e = name_bytes_fit f e
   valid_bytes (compound f ts) e =
       let parts = and_parts _ _ e in
       let shape = and_parts _ _ parts.0 in
       let name = and_parts _ _ shape.0 in
       let few = leb-true (arity ts) 255 shape.1 in
-      and_from _ _ (lt-ltb (arity ts) 256 (omega arith)) (are_bytes-append (name_bytes f) (bytes_of_all ts) (name_bytes_fit f name.0) (valid_bytes_of_all ts parts.1))
+      and_from _ _ (lt-ltb (arity ts) 256 (omega arith)) (are_bytes-append (name_bytes f) (bytes_of_all ts) (name_bytes_fit f name.0)
+      (valid_bytes_of_all ts parts.1))
 
   pub valid_bytes_of_all : (ts : Trees) → are_valid ts ≡ true → are_bytes (bytes_of_all ts) ≡ true
   valid_bytes_of_all no_trees e = refl

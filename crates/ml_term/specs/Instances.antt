@@ -1,10 +1,11 @@
 -- Instances of terms: when two terms meet, whatever numbers their variables have.
 use Rattle.std.specs.Prelude.{◌≡◌, ◌⊎◌, ◌&&◌, ℕ, Bool, true, false, IsTrue}
-use Rattle.ml_term.specs.Tree.{Tree, Trees, variable, integer, atom, compound, no_trees, tree, occurs, is_ground, substituted}
+use Rattle.ml_term.specs.Tree.{Tree, Trees, variable, integer, atom, compound, no_trees, tree}
+use Rattle.ml_term.specs.Tree.{occurs, is_ground, substitute}
 
 -- whether some term is an instance of both, each with a substitution of its own
 abbrev pub HaveACommonInstance : Tree → Tree → Type 0
-HaveACommonInstance t u = (s : ℕ → Tree) × ((r : ℕ → Tree) × (substituted s t ≡ substituted r u))
+HaveACommonInstance t u = (s : ℕ → Tree) × ((r : ℕ → Tree) × (substitute s t ≡ substitute r u))
 
 -- whether no variable stands in both
 abbrev pub AreApart : Tree → Tree → Type 0

@@ -13,12 +13,15 @@ rank (atom f) = 2
 rank (compound f ts) = 3
 
 abbrev mutual
-  -- Variables compare by age, integers by value, atoms by their bytes, compounds by arity, then name, then arguments from the left.
+  -- Variables compare by age, integers by value, atoms by their bytes, compounds by arity, then
+  -- name, then arguments from the left.
   pub tree_cmp : Tree → Tree → Ordering
   tree_cmp (variable m) (variable n) = nat_cmp m n
   tree_cmp (integer y) (integer z) = int_cmp y z
   tree_cmp (atom f) (atom g) = slice_cmp nat_cmp f g
-  tree_cmp (compound f ts) (compound g us) = ordering_then (nat_cmp (arity ts) (arity us)) (ordering_then (slice_cmp nat_cmp f g) (trees_cmp ts us))
+  tree_cmp (compound f ts) (compound g us) =
+      ordering_then (nat_cmp (arity ts) (arity us))
+      (ordering_then (slice_cmp nat_cmp f g) (trees_cmp ts us))
   tree_cmp t u = nat_cmp (rank t) (rank u)
 
   pub trees_cmp : Trees → Trees → Ordering

@@ -1,5 +1,6 @@
 -- Which keys an item may have that unifies with a pattern, and which prefixes may begin such a key.
-use Rattle.std.specs.Prelude.{ℕ, zero, suc, ◌+◌, Bool, true, false, ◌&&◌, ◌||◌, List, [], ◌∷◌, ◌++◌, map, length, take, drop, Option, Some, None}
+use Rattle.std.specs.Prelude.{ℕ, zero, suc, ◌+◌, Bool, true, false, ◌&&◌, ◌||◌, List, [], ◌∷◌, ◌++◌}
+use Rattle.std.specs.Prelude.{map, length, take, drop, Option, Some, None}
 use Rattle.ml_term.specs.Tree.{Tree, variable}
 use Rattle.ml_term.specs.Codes.{code, variable_code}
 use Rattle.ml_term.specs.Keys.{keyed_arguments}
@@ -40,7 +41,8 @@ column a i (suc n) bs = take 1 (drop i bs) ++ column a i n (drop a bs)
 abbrev pub attribute : ℕ → ℕ → List Bool → List Bool
 attribute a i key = column a i 64 key
 
--- one keyed place: the pattern has a variable there, or its code is the key's there, or the key's code there is the variable's
+-- one keyed place: the pattern has a variable there, or its code is the key's there, or the key's
+-- code there is the variable's
 abbrev pub fits_at : Option (List Bool) → List Bool → Bool
 fits_at None found = true
 fits_at (Some asked) found = same_bits found asked || same_bits found variable_code
@@ -62,7 +64,8 @@ may_hold_at (Some asked) found = begins found asked || begins found variable_cod
 -- the keyed places of a prefix from i on
 abbrev pub may_hold_from : ℕ → ℕ → List (Option (List Bool)) → List Bool → Bool
 may_hold_from a i [] prefix = true
-may_hold_from a i (p ∷ ps) prefix = may_hold_at p (attribute a i prefix) && may_hold_from a (i + 1) ps prefix
+may_hold_from a i (p ∷ ps) prefix =
+    may_hold_at p (attribute a i prefix) && may_hold_from a (i + 1) ps prefix
 
 -- whether a key that begins with a prefix may fit a pattern
 abbrev pub may_hold : List (Option (List Bool)) → List Bool → Bool

@@ -1,8 +1,11 @@
--- Terms as finite trees. The code has an enum with vectors of arguments, and heap cells above; a tree has neither.
-use Rattle.std.specs.Prelude.{ℕ, ◌+◌, Bool, true, false, ◌||◌, ◌&&◌, ◌==◌, ℤ, List, [], ◌∷◌, ◌++◌, length, if◌then◌else◌}
+-- Terms as finite trees. The code has an enum with vectors of arguments, and heap cells above; a
+-- tree has neither.
+use Rattle.std.specs.Prelude.{ℕ, ◌+◌, Bool, true, false, ◌||◌, ◌&&◌, ◌==◌, ℤ, List, [], ◌∷◌, ◌++◌}
+use Rattle.std.specs.Prelude.{length, if◌then◌else◌}
 
 mutual
-  -- a variable by its number, an integer, an atom by its name, or a compound of a name and arguments
+  -- a variable by its number, an integer, an atom by its name, or a compound of a name and
+  -- arguments
   pub data Tree : Type 0 where
     variable : ℕ → Tree
     integer : ℤ → Tree
@@ -80,15 +83,15 @@ is_ground t = (length (variables t)) == 0
 
 abbrev mutual
   -- a term with a tree in place of each variable
-  pub substituted : (ℕ → Tree) → Tree → Tree
-  substituted s (variable n) = s n
-  substituted s (integer z) = integer z
-  substituted s (atom f) = atom f
-  substituted s (compound f ts) = compound f (substituted_in s ts)
+  pub substitute : (ℕ → Tree) → Tree → Tree
+  substitute s (variable n) = s n
+  substitute s (integer z) = integer z
+  substitute s (atom f) = atom f
+  substitute s (compound f ts) = compound f (substitute_in s ts)
 
-  pub substituted_in : (ℕ → Tree) → Trees → Trees
-  substituted_in s no_trees = no_trees
-  substituted_in s (tree t ts) = tree (substituted s t) (substituted_in s ts)
+  pub substitute_in : (ℕ → Tree) → Trees → Trees
+  substitute_in s no_trees = no_trees
+  substitute_in s (tree t ts) = tree (substitute s t) (substitute_in s ts)
 
 -- a list of numbers without one of them
 abbrev pub without : ℕ → List ℕ → List ℕ
@@ -110,8 +113,8 @@ abbrev pub width : Tree → ℕ
 width t = length (firsts (variables t))
 
 -- a term whose variables are new ones from a number on, by first place
-abbrev pub renamed : ℕ → Tree → Tree
-renamed next t = substituted (λ n. variable (next + place_in (firsts (variables t)) n)) t
+abbrev pub rename : ℕ → Tree → Tree
+rename next t = substitute (λ n. variable (next + place_in (firsts (variables t)) n)) t
 
 -- whether a list of numbers is `next` and the numbers that follow it
 abbrev pub counts_from : ℕ → List ℕ → Bool

@@ -5,16 +5,16 @@ use std::cmp::Ordering;
 use std::process::Abort;
 use std::test::Fail;
 
-/// f(_0,g(-1,a),_1,_0), its bytes.
+// f(_0,g(-1,a),_1,_0), its bytes.
 const NESTED: [u8; 40] = [
     3, 4, 1, 102, 0, 0, 0, 0, 0, 3, 2, 1, 103, 1, 0x1f, 255, 255, 255, 255, 255, 255, 255, 2, 1,
     97, 0, 0, 0, 0, 1, 0, 0, 0, 0, 0, 9, 9, 9, 9, 9,
 ];
 
-/// How many of them are the term's.
+// How many of them are the term's.
 const NESTED_LEN: usize = 35;
 
-/// The place of the first defect from a place on, or the place after the term that stands there.
+// The place of the first defect from a place on, or the place after the term that stands there.
 fn read(rt: &impl Abort, alloc: Global, bytes: &[u8], at: usize) -> Result<usize, Option<usize>> {
     assert!(rt; at <= bytes.len());
     match from_bytes(alloc, bytes, at) {
@@ -87,7 +87,7 @@ fn bytes_that_are_cut_end_too_early(rt: HostRuntime) {
     assert_eq!(rt; read(&rt, alloc, &NESTED, 0), Ok(NESTED_LEN));
 }
 
-/// The bytes that are read as a term are those that the term is written as.
+// The bytes that are read as a term are those that the term is written as.
 fn written_again(rt: &impl Abort, alloc: Global, bytes: &[u8]) -> Result<bool, AllocError> {
     let (term, after) = from_bytes(alloc, bytes, 0).expect(rt, "the bytes are a term's");
     let again = to_bytes(alloc, &term)?;
@@ -110,7 +110,7 @@ fn a_term_is_written_as_it_was_read(rt: HostRuntime) -> Result<(), Fail> {
     Ok(())
 }
 
-/// The bytes of f(f(..)) of some levels round the atom without a name.
+// The bytes of f(f(..)) of some levels round the atom without a name.
 fn nested(alloc: Global, levels: usize) -> Result<Vec<u8>, AllocError> {
     let mut bytes = Vec::new(alloc);
     for _ in 0..levels {
@@ -120,7 +120,7 @@ fn nested(alloc: Global, levels: usize) -> Result<Vec<u8>, AllocError> {
     Ok(bytes)
 }
 
-/// The bytes of f(f(0,..),..) with 17 compounds of 255 arguments in turn.
+// The bytes of f(f(0,..),..) with 17 compounds of 255 arguments in turn.
 fn wide(alloc: Global) -> Result<Vec<u8>, AllocError> {
     let mut bytes = Vec::new(alloc);
     for _ in 0..17 {

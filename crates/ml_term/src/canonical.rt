@@ -12,7 +12,7 @@ use crate::order::rank_of;
 use crate::term::Term;
 use std::cmp::Ordering;
 
-/// The order of two names as they stand in canonical bytes: by length, and then by their bytes.
+// The order of two names as they stand in canonical bytes: by length, and then by their bytes.
 fn name_bytes_cmp(f: &Name, g: &Name) -> Ordering
     ensures { result ≡ slice_cmp nat_cmp (name_bytes f.now) (name_bytes g.now) }
 {
@@ -42,13 +42,14 @@ pub fn canonical_cmp(a: &Term, b: &Term) -> Ordering
     }
 }
 
-/// The order of the canonical bytes of as many terms on both sides.
+// The order of the canonical bytes of as many terms on both sides.
 #[cycle(canonical)]
 fn all_canonical_cmp(ts: &[Term], us: &[Term]) -> Ordering
     requires as_many { length ts.now ≡ length us.now }
     requires ts { IsTrue (are_valid (trees_of (all_seen ts.now))) }
     requires us { IsTrue (are_valid (trees_of (all_seen us.now))) }
-    ensures { result ≡ slice_cmp nat_cmp (bytes_of_all (trees_of (all_seen ts.now))) (bytes_of_all (trees_of (all_seen us.now))) }
+    ensures { result ≡ slice_cmp nat_cmp (bytes_of_all (trees_of (all_seen ts.now)))
+        (bytes_of_all (trees_of (all_seen us.now))) }
 {
     match (ts.split_first(), us.split_first()) {
         (Some((t, ts)), Some((u, us))) => match canonical_cmp(t, u) {

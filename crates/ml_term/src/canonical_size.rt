@@ -6,7 +6,8 @@ ghost use Rattle.ml_term.specs.Tree.{trees_of};
 
 use crate::term::Term;
 
-/// The number of a term's canonical bytes where it is at most the limit, and else the limit and one more. It takes no memory.
+/// The number of a term's canonical bytes where it is at most the limit, and else the limit and one
+/// more. It takes no memory.
 #[cycle(canonical_size)]
 pub fn canonical_len_up_to(t: &Term, limit: usize) -> usize
     requires { limit < 2 ^ 63 }
@@ -27,7 +28,7 @@ pub fn canonical_len_up_to(t: &Term, limit: usize) -> usize
     }
 }
 
-/// The same for the canonical bytes of some terms together.
+// The same for the canonical bytes of some terms together.
 #[cycle(canonical_size)]
 fn all_canonical_len_up_to(ts: &[Term], limit: usize) -> usize
     requires { limit < 2 ^ 63 }

@@ -4,7 +4,7 @@ ghost use Rattle.std.specs.List.{list_all};
 ghost use Rattle.ml_term.specs.Keys.{are_different, are_keys, default_keys};
 ghost use Rattle.ml_term.specs.Tree.{has};
 
-use crate::limits::MOST_KEYS;
+use crate::limits::MAX_KEYED_ARGUMENTS;
 use crate::name::Name;
 use std::alloc::{AllocError, Global};
 use std::marker::Model;
@@ -44,7 +44,7 @@ pub enum Kind {
     Clauses,
 }
 
-/// Whether a number is one of these.
+// Whether a number is one of these.
 fn has(k: u8, numbers: &[u8]) -> bool
     ensures { result ≡ has k numbers.now }
 {
@@ -54,7 +54,7 @@ fn has(k: u8, numbers: &[u8]) -> bool
     }
 }
 
-/// Whether no number stands twice among these.
+// Whether no number stands twice among these.
 fn are_different(numbers: &[u8]) -> bool
     ensures { result ≡ are_different numbers.now }
 {
@@ -64,25 +64,27 @@ fn are_different(numbers: &[u8]) -> bool
     }
 }
 
-/// Whether all numbers are those of arguments.
+// Whether all numbers are those of arguments.
 fn are_in_range(arity: u8, numbers: &[u8]) -> bool
     ensures { result ≡ list_all (λ k. nat_le 1 k && nat_le k arity) numbers.now }
 {
     numbers.iter().all(|k| 1 <= *k && *k <= arity)
 }
 
-/// Whether these may be the keys of a declaration: 1 to 8 different numbers from 1 to the arity. It takes no memory.
+/// Whether these may be the keys of a declaration: 1 to 8 different numbers from 1 to the arity. It
+/// takes no memory.
 pub fn are_keys(arity: u8, numbers: &[u8]) -> bool
     ensures { result ≡ are_keys arity numbers.now }
 {
     let count = numbers.len();
     1 <= count
-        && count <= usize::from(MOST_KEYS)
+        && count <= usize::from(MAX_KEYED_ARGUMENTS)
         && are_in_range(arity, numbers)
         && are_different(numbers)
 }
 
-/// The numbers of the keyed arguments, from 1, in the order in which their codes take part in a key. Contracts see the list.
+/// The numbers of the keyed arguments, from 1, in the order in which their codes take part in a
+/// key. Contracts see the list.
 #[derive(Drop)]
 pub struct Keys {
     numbers: Vec<u8>,
@@ -111,7 +113,7 @@ impl Keys {
         ensures same { IfOk result (λ keys. keys ≡ default_keys arity) }
         ensures valid { 1 ≤ arity → IfOk result (λ keys. IsTrue (are_keys arity keys)) }
     {
-        let count = arity.min(MOST_KEYS);
+        let count = arity.min(MAX_KEYED_ARGUMENTS);
         let mut numbers = Vec::new(alloc);
         for k in 0..count {
             numbers.push(k + 1)?;

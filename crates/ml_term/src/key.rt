@@ -3,7 +3,7 @@ ghost use Rattle.std.specs.Prelude.{◌≡◌, ◌≤◌, ◌&&◌, IsTrue, leng
 ghost use Rattle.std.specs.List.{list_all};
 ghost use Rattle.std.specs.Cmp.Lexicographic.{slice_cmp};
 ghost use Rattle.std.specs.Ordering.{bool_cmp};
-ghost use Rattle.ml_term.specs.KeyHeads.{head_of};
+ghost use Rattle.ml_term.specs.inside.KeyHeads.{key_head_of};
 ghost use Rattle.ml_term.specs.Keys.{argument, arguments, tuple_cmp};
 ghost use Rattle.ml_term.specs.Seen.{all_seen, seen};
 ghost use Rattle.ml_term.specs.Tree.{arity, trees_of};
@@ -38,14 +38,16 @@ pub fn argument_at(ts: &[Term], k: u8) -> &Term
     &ts[usize::from(k) - 1]
 }
 
-/// The order of the codes of keyed arguments, whose bits stand in turn: the first bit that differs decides, and of several arguments that
-/// differ first at one bit the first argument. It takes no memory.
+// The order of the codes of keyed arguments, whose bits stand in turn: the first bit that differs
+// decides, and of several arguments that differ first at one bit the first argument. It takes no
+// memory.
 fn head_cmp(keys: &[u8], ts: &[Term], us: &[Term]) -> Ordering
     requires keys { IsTrue (list_all (λ k. nat_le 1 k && nat_le k (length ts.now)) keys.now) }
     requires as_many { length us.now ≡ length ts.now }
     requires ts { IsTrue (are_valid (trees_of (all_seen ts.now))) }
     requires us { IsTrue (are_valid (trees_of (all_seen us.now))) }
-    ensures { result ≡ slice_cmp bool_cmp (head_of keys.now (trees_of (all_seen ts.now))) (head_of keys.now (trees_of (all_seen us.now))) }
+    ensures { result ≡ slice_cmp bool_cmp (key_head_of keys.now (trees_of (all_seen ts.now)))
+        (key_head_of keys.now (trees_of (all_seen us.now))) }
 {
     let mut same = u64::BITS;
     let mut order = Ordering::Equal;
@@ -61,8 +63,8 @@ fn head_cmp(keys: &[u8], ts: &[Term], us: &[Term]) -> Ordering
     order
 }
 
-/// The order of the keys of two tuples of a declared relation: first the codes of the keyed arguments, bit by bit in turn, and then the
-/// canonical bytes. It takes no memory.
+/// The order of the keys of two tuples of a declared relation: first the codes of the keyed
+/// arguments, bit by bit in turn, and then the canonical bytes. It takes no memory.
 pub fn key_cmp(decl: &Decl, a: &Term, b: &Term) -> Ordering
     requires arity_a { arity (arguments (seen a.now)) ≡ decl.now.pred.arity }
     requires arity_b { arity (arguments (seen b.now)) ≡ decl.now.pred.arity }

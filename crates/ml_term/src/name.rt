@@ -9,16 +9,20 @@ ghost use Rattle.std.specs.Ordering.{nat_cmp};
 ghost use Rattle.std.proofs.Common.{rules};
 ghost use Rattle.ml_term.specs.Names.{is_name, is_name_byte};
 
-use crate::limits::MOST_NAME_BYTES;
+use crate::limits::MAX_NAME_BYTES;
+use smallvec::SmallVec;
 use std::alloc::{AllocError, Global};
 use std::cmp::Ordering;
 use std::hash::{Hash, Hasher};
 use std::marker::Model;
 
+// How many bytes of a name stand in the name itself; a longer one takes memory.
+const BYTES_IN_PLACE: usize = 15;
+
 /// At most 255 bytes, each from 7 to 13 or from 32 to 126. Contracts see the list of the bytes.
 #[derive(Drop)]
 pub struct Name {
-    bytes: Vec<u8>,
+    bytes: SmallVec<u8, BYTES_IN_PLACE>,
 }
 
 impl Model for Name {
@@ -36,17 +40,17 @@ impl Model for Name {
 pub fn is_name(bytes: &[u8]) -> bool
     ensures { result ≡ is_name bytes.now }
 {
-    bytes.len() <= MOST_NAME_BYTES && are_name_bytes(bytes)
+    bytes.len() <= MAX_NAME_BYTES && are_name_bytes(bytes)
 }
 
-/// Whether a name may have each of these bytes.
+// Whether a name may have each of these bytes.
 fn are_name_bytes(bytes: &[u8]) -> bool
     ensures { result ≡ list_all is_name_byte bytes.now }
 {
     bytes.iter().all(|b| is_name_byte(*b))
 }
 
-/// Whether a name may have this byte.
+// Whether a name may have this byte.
 pub(crate) fn is_name_byte(byte: u8) -> bool
     ensures { result ≡ is_name_byte byte }
 {
@@ -60,7 +64,7 @@ impl Name {
         ensures { IfOk result (λ name. name ≡ bytes.now) }
     {
         Ok(Name {
-            bytes: Vec::from_slice(alloc, bytes)?,
+            bytes: SmallVec::from_slice(alloc, bytes)?,
         })
     }
 
@@ -77,7 +81,7 @@ impl Name {
         ensures { IfOk result (λ name. name ≡ self.now) }
     {
         Ok(Name {
-            bytes: Vec::from_slice(alloc, self.bytes.as_slice())?,
+            bytes: SmallVec::from_slice(alloc, self.bytes.as_slice())?,
         })
     }
 

@@ -5,7 +5,8 @@ ghost use Rattle.ml_term.specs.Tree.{is_ground, nodes, nodes_of, trees_of, varia
 
 use crate::term::Term;
 
-/// The number of a term's nodes where it is at most the limit, and else the limit and one more. It takes no memory.
+/// The number of a term's nodes where it is at most the limit, and else the limit and one more. It
+/// takes no memory.
 #[cycle(nodes)]
 pub fn nodes_up_to(t: &Term, limit: usize) -> usize
     requires { limit < 2 ^ 64 - 1 }
@@ -17,7 +18,7 @@ pub fn nodes_up_to(t: &Term, limit: usize) -> usize
     }
 }
 
-/// The same for the nodes of some terms together.
+// The same for the nodes of some terms together.
 #[cycle(nodes)]
 fn nodes_of_up_to(ts: &[Term], limit: usize) -> usize
     requires { limit < 2 ^ 64 - 1 }
@@ -48,7 +49,7 @@ pub fn is_ground(t: &Term) -> bool
     }
 }
 
-/// Whether some terms have no variable.
+// Whether some terms have no variable.
 #[cycle(ground)]
 fn are_ground(ts: &[Term]) -> bool
     ensures { result ≡ (length (variables_of (trees_of (all_seen ts.now))) == 0) }

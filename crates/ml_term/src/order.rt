@@ -7,7 +7,7 @@ ghost use Rattle.ml_term.specs.Tree.{trees_of};
 use crate::term::Term;
 use std::cmp::Ordering;
 
-/// The place of a term's kind: variables, integers, atoms, compounds.
+// The place of a term's kind: variables, integers, atoms, compounds.
 pub(crate) fn rank_of(t: &Term) -> u8
     ensures { result ≡ rank (seen t.now) }
 {
@@ -19,7 +19,8 @@ pub(crate) fn rank_of(t: &Term) -> u8
     }
 }
 
-/// The standard order: variables by age, integers by value, atoms by their bytes, compounds by arity, then name, then arguments from the left.
+/// The standard order: variables by age, integers by value, atoms by their bytes, compounds by
+/// arity, then name, then arguments from the left.
 /// It takes no memory.
 #[cycle(compare)]
 pub fn compare(a: &Term, b: &Term) -> Ordering
@@ -40,7 +41,7 @@ pub fn compare(a: &Term, b: &Term) -> Ordering
     }
 }
 
-/// The order of arguments from the left.
+// The order of arguments from the left.
 #[cycle(compare)]
 fn compare_all(ts: &[Term], us: &[Term]) -> Ordering
     ensures { result ≡ trees_cmp (trees_of (all_seen ts.now)) (trees_of (all_seen us.now)) }

@@ -1,25 +1,28 @@
 //! A term from its canonical bytes, or the first defect of bytes that are none.
-ghost use Rattle.std.specs.Prelude.{◌≡◌, ◌+◌, ◌*◌, ◌^◌, ◌<◌, ◌≤◌, ◌∷◌, ◌++◌, ℕ, Some, IsTrue, IfOk, IfErr, MatchResult, length, drop, take};
+ghost use Rattle.std.specs.Prelude.{◌≡◌, ◌+◌, ◌*◌, ◌^◌, ◌<◌, ◌≤◌, ◌∷◌, ◌++◌, ℕ, Some, IsTrue, IfOk};
+ghost use Rattle.std.specs.Prelude.{IfErr, MatchResult, length, drop, take};
 ghost use Rattle.std.specs.Int.{to_be_bytes, w32, w64};
 ghost use Rattle.std.specs.List.{prefix_len};
-ghost use Rattle.ml_term.specs.CanonicalBytes.{counted, name_bytes};
-ghost use Rattle.ml_term.specs.FirstDefect.{Found, faulty, first_defect, integer_at, met_with, name_at, variable_at};
+ghost use Rattle.ml_term.specs.CanonicalBytes.{counted_from_smallest, name_bytes};
+ghost use Rattle.ml_term.specs.FirstDefect.{NodeOrDefect, defect_at, first_defect, integer_at};
+ghost use Rattle.ml_term.specs.FirstDefect.{met_after_variable, name_at, variable_at};
 ghost use Rattle.ml_term.specs.Names.{is_name_byte};
-ghost use Rattle.ml_term.specs.Reading.{AreRead, HasDefect, IsRead, RefusesAt};
+ghost use Rattle.ml_term.specs.inside.Reading.{AreRead, HasDefect, IsRead, RefusesAt};
 ghost use Rattle.ml_term.specs.Seen.{all_seen, seen};
 ghost use Rattle.ml_term.specs.StandsAt.{StandsAt};
 ghost use Rattle.ml_term.specs.Tree.{Tree, trees_of};
 ghost use Rattle.ml_term.specs.Valid.{is_in_range};
 ghost use Rattle.ml_term.specs.declared.stop.BytesStop.TheVariants.{OutOfMemory};
 
-use crate::limits::{INTEGER_COUNT, INTEGER_OFFSET, MOST_NODES};
+use crate::limits::{INTEGER_COUNT, INTEGER_OFFSET, MAX_TERM_NODES};
 use crate::name::{Name, is_name_byte};
 use crate::stop::{BadBytes, BytesStop};
 use crate::tags::{ATOM_TAG, COMPOUND_TAG, INTEGER_TAG, VARIABLE_TAG};
 use crate::term::{Args, Term};
 use std::alloc::Global;
 
-/// How far a reading has come: the place of the next byte, how many variables were met, and how many nodes may still come.
+// How far a reading has come: the place of the next byte, how many variables were met, and how
+// many nodes may still come.
 #[derive(Clone, Copy)]
 struct Progress {
     at: usize,
@@ -28,7 +31,7 @@ struct Progress {
 }
 
 impl Progress {
-    /// How far it has come after a node of some bytes.
+    // How far it has come after a node of some bytes.
     fn after_node(self, bytes: usize, met: u32) -> Progress
         requires at { self.at + bytes < 2 ^ 64 }
         requires left { 1 ≤ self.left }
@@ -44,19 +47,20 @@ impl Progress {
     }
 }
 
-/// The refusal of bytes by the place of their first defect.
+// The refusal of bytes by the place of their first defect.
 fn bad(place: usize) -> BytesStop
     ensures { RefusesAt result (λ p. p ≡ place) }
 {
     BytesStop::Bad(BadBytes { place })
 }
 
-/// The number of a variable, behind the tag at a place.
+// The number of a variable, behind the tag at a place.
 fn variable_behind(bytes: &[u8], at: usize, met: u32) -> Result<u32, BytesStop>
     requires { at + 1 + length bytes.now < 2 ^ 64 }
     ensures found { IfOk result (λ n. bytes.now ≡ to_be_bytes w32 n ++ drop 4 bytes.now) }
     ensures known { IfOk result (λ n. n ≤ met) }
-    ensures bad { IfErr result (λ stop. RefusesAt stop (λ place. variable_at met at bytes.now ≡ faulty place)) }
+    ensures bad { IfErr result (λ stop.
+        RefusesAt stop (λ place. variable_at met at bytes.now ≡ defect_at place)) }
 {
     if bytes.len() < 4 {
         return Err(bad(at + 1 + bytes.len()));
@@ -68,12 +72,14 @@ fn variable_behind(bytes: &[u8], at: usize, met: u32) -> Result<u32, BytesStop>
     Ok(number)
 }
 
-/// An integer, behind the tag at a place.
+// An integer, behind the tag at a place.
 fn integer_behind(bytes: &[u8], at: usize) -> Result<i64, BytesStop>
     requires { at + 1 + length bytes.now < 2 ^ 64 }
-    ensures found { IfOk result (λ v. bytes.now ≡ to_be_bytes w64 (counted v) ++ drop 8 bytes.now) }
+    ensures found { IfOk result (λ v. bytes.now ≡ to_be_bytes w64 (counted_from_smallest v)
+        ++ drop 8 bytes.now) }
     ensures valid { IfOk result (λ v. IsTrue (is_in_range v)) }
-    ensures bad { IfErr result (λ stop. RefusesAt stop (λ place. (met : ℕ) → integer_at met at bytes.now ≡ faulty place)) }
+    ensures bad { IfErr result (λ stop.
+        RefusesAt stop (λ place. (met : ℕ) → integer_at met at bytes.now ≡ defect_at place)) }
 {
     if bytes.len() < 8 {
         return Err(bad(at + 1 + bytes.len()));
@@ -88,7 +94,7 @@ fn integer_behind(bytes: &[u8], at: usize) -> Result<i64, BytesStop>
     }
 }
 
-/// How many bytes at the front a name may have.
+// How many bytes at the front a name may have.
 fn name_bytes_in_front(bytes: &[u8]) -> usize
     ensures same { result ≡ prefix_len is_name_byte bytes.now }
     ensures within { result ≤ length bytes.now }
@@ -101,12 +107,14 @@ fn name_bytes_in_front(bytes: &[u8]) -> usize
     bytes.len()
 }
 
-/// A name with its length before it, which stands at a place.
+// A name with its length before it, which stands at a place.
 fn name_behind(alloc: Global, bytes: &[u8], at: usize) -> Result<Name, BytesStop>
     requires { at + length bytes.now < 2 ^ 64 }
-    ensures found { IfOk result (λ name. bytes.now ≡ name_bytes name ++ drop (1 + length name) bytes.now) }
+    ensures found { IfOk result (λ name. bytes.now ≡ name_bytes name
+        ++ drop (1 + length name) bytes.now) }
     ensures bad { IfErr result (λ stop. RefusesAt stop (λ place.
-        (front arguments met tag : ℕ) → tag + front ≡ at → name_at front arguments met tag bytes.now ≡ faulty place)) }
+        (front arguments met tag : ℕ) → tag + front ≡ at →
+        name_at front arguments met tag bytes.now ≡ defect_at place)) }
 {
     let Some((count, rest)) = bytes.split_first() else {
         return Err(bad(at));
@@ -120,11 +128,11 @@ fn name_behind(alloc: Global, bytes: &[u8], at: usize) -> Result<Name, BytesStop
     Ok(Name::new(alloc, name)?)
 }
 
-/// The term at a place.
+// The term at a place.
 #[cycle(reading)]
 fn term_at(alloc: Global, bytes: &[u8], before: Progress) -> Result<(Term, Progress), BytesStop>
     requires place { before.at ≤ length bytes.now }
-    requires room { before.met + before.left ≤ MOST_NODES }
+    requires room { before.met + before.left ≤ MAX_TERM_NODES }
     ensures found { IfOk result (λ found. IsRead bytes.now before (seen found.0) found.1) }
     ensures bad { IfErr result (λ stop. RefusesAt stop (HasDefect bytes.now 1 before)) }
 {
@@ -159,7 +167,7 @@ fn term_at(alloc: Global, bytes: &[u8], before: Progress) -> Result<(Term, Progr
     }
 }
 
-/// The compound whose tag stands at a place, and whose bytes behind the tag are given.
+// The compound whose tag stands at a place, and whose bytes behind the tag are given.
 #[cycle(reading)]
 fn compound_at(
     alloc: Global,
@@ -169,7 +177,7 @@ fn compound_at(
 ) -> Result<(Term, Progress), BytesStop>
     requires tag { drop before.at bytes.now ≡ COMPOUND_TAG ∷ behind.now }
     requires left { 1 ≤ before.left }
-    requires room { before.met + before.left ≤ MOST_NODES }
+    requires room { before.met + before.left ≤ MAX_TERM_NODES }
     ensures found { IfOk result (λ found. IsRead bytes.now before (seen found.0) found.1) }
     ensures bad { IfErr result (λ stop. RefusesAt stop (HasDefect bytes.now 1 before)) }
 {
@@ -185,7 +193,7 @@ fn compound_at(
     Ok((Term::Cmp(name, Args::new(args)), after))
 }
 
-/// So many terms, one after the other from a place on.
+// So many terms, one after the other from a place on.
 #[cycle(reading)]
 fn args_at(
     alloc: Global,
@@ -194,8 +202,9 @@ fn args_at(
     before: Progress,
 ) -> Result<(Vec<Term>, Progress), BytesStop>
     requires place { before.at ≤ length bytes.now }
-    requires room { before.met + before.left ≤ MOST_NODES }
-    ensures found { IfOk result (λ found. AreRead bytes.now before (trees_of (all_seen found.0.items)) found.1) }
+    requires room { before.met + before.left ≤ MAX_TERM_NODES }
+    ensures found { IfOk result (λ found.
+        AreRead bytes.now before (trees_of (all_seen found.0.items)) found.1) }
     ensures count { IfOk result (λ found. length found.0.items ≡ count) }
     ensures bad { IfErr result (λ stop. RefusesAt stop (HasDefect bytes.now count before)) }
 {
@@ -215,14 +224,16 @@ pub fn from_bytes(alloc: Global, bytes: &[u8], at: usize) -> Result<(Term, usize
     requires { at ≤ length bytes.now }
     ensures found { IfOk result (λ found. StandsAt bytes.now at (seen found.0) found.1) }
     ensures within { IfOk result (λ found. found.1 ≤ length bytes.now) }
-    ensures bad { IfErr result (λ stop. RefusesAt stop (λ place. first_defect bytes.now at ≡ Some place)) }
+    ensures bad { IfErr result (λ stop.
+        RefusesAt stop (λ place. first_defect bytes.now at ≡ Some place)) }
     ensures only { (t : Tree) (after : ℕ) → StandsAt bytes.now at t after →
-        MatchResult result (λ found. (seen found.0 ≡ t) × (found.1 ≡ after)) (λ stop. stop ≡ OutOfMemory) }
+        MatchResult result (λ found. (seen found.0 ≡ t) × (found.1 ≡ after))
+        (λ stop. stop ≡ OutOfMemory) }
 {
     let before = Progress {
         at,
         met: 0,
-        left: MOST_NODES,
+        left: MAX_TERM_NODES,
     };
     let (term, after) = term_at(alloc, bytes, before)?;
     Ok((term, after.at))

@@ -4,7 +4,8 @@ ghost use Rattle.ml_term.specs.declared.stop.BytesStop.TheVariants.{OutOfMemory}
 
 use std::alloc::{AllocError, AllocFailed};
 
-/// Bytes that are no canonical bytes of a term, by the place of their first defect, counted from 0 from the first of all the bytes.
+/// Bytes that are no canonical bytes of a term, by the place of their first defect, counted from 0
+/// from the first of all the bytes.
 #[derive(Clone, Copy, Debug, PartialEq, Eq)]
 pub struct BadBytes {
     pub place: usize,

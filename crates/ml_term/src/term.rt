@@ -5,11 +5,15 @@ ghost use Rattle.ml_term.specs.Seen.{seen};
 ghost use Rattle.ml_term.specs.Tree.{arity};
 
 use crate::args::ArgsOf;
+use crate::list::ListOf;
 use crate::name::Name;
 use std::alloc::{AllocError, Global};
 
 /// The arguments of a compound: 1 to 255 terms.
 pub type Args = ArgsOf<Term>;
+
+/// Any number of terms.
+pub type Terms = ListOf<Term>;
 
 /// A term of the language. Contracts see the tree that it stands for.
 #[derive(Drop)]
@@ -60,6 +64,15 @@ impl ArgsOf<Term> {
         ensures { IfOk result (λ args. args ≡ self.now) }
     {
         Ok(ArgsOf::new(copy_terms(alloc, self.as_slice())?))
+    }
+}
+
+impl ListOf<Term> {
+    /// An equal list.
+    pub fn copy_of(&self, alloc: Global) -> Result<Terms, AllocError>
+        ensures { IfOk result (λ terms. terms ≡ self.now) }
+    {
+        Ok(ListOf::from_vec(copy_terms(alloc, self.as_slice())?))
     }
 }
 

@@ -10,7 +10,7 @@ use std::cmp::Ordering;
 use std::process::Abort;
 use std::test::Fail;
 
-/// A term of a table: a variable, a number, an atom, or a compound of one or of two such arguments.
+// A term of a table: a variable, a number, an atom, or a compound of one or of two such arguments.
 #[derive(Clone, Copy)]
 enum Row {
     Variable(u32),
@@ -175,7 +175,8 @@ fn terms_stand_in_the_standard_order(rt: HostRuntime) -> Result<(), Fail> {
     Ok(())
 }
 
-/// An argument of a tuple: a small number, or one of three atoms, of which the last two have one code.
+// An argument of a tuple: a small number, or one of three atoms, of which the last two have one
+// code.
 fn argument(rt: &impl Abort, alloc: Global, n: i8) -> Result<Term, AllocError> {
     let row = match n {
         100 => Row::Word(b"a"),
@@ -186,7 +187,7 @@ fn argument(rt: &impl Abort, alloc: Global, n: i8) -> Result<Term, AllocError> {
     term_of(rt, alloc, row)
 }
 
-/// The order of two tuples q(m,n) by their keys.
+// The order of two tuples q(m,n) by their keys.
 fn tuples_cmp(
     rt: &impl Abort,
     alloc: Global,

@@ -14,29 +14,30 @@ pub fn is_in_range(v: i64) -> bool
     -INTEGER_OFFSET <= v && v < INTEGER_OFFSET
 }
 
-/// Whether a term's integers are in range. All else that makes it valid is kept by its type. It takes no memory.
+/// Whether a term's integers are in range. All else that makes it valid is kept by its type. It
+/// takes no memory.
 #[cycle(valid)]
 pub fn is_valid(t: &Term) -> bool
     ensures { result ≡ is_valid (seen t.now) }
 {
     match t {
         Term::Var(n) => {
-            let _number = *n;
+            let _in_range = *n;
             true
         }
         Term::Int(v) => is_in_range(*v),
         Term::Atom(f) => {
-            let _name = f.as_slice();
+            let _is_name = f.as_slice();
             true
         }
         Term::Cmp(f, ts) => {
-            let _name = f.as_slice();
+            let _is_name = f.as_slice();
             are_valid(ts.as_slice())
         }
     }
 }
 
-/// Whether this holds of some terms.
+// Whether this holds of some terms.
 #[cycle(valid)]
 fn are_valid(ts: &[Term]) -> bool
     ensures { result ≡ are_valid (trees_of (all_seen ts.now)) }

@@ -1,8 +1,8 @@
-pub mod Digits
-pub mod Gaps
-pub mod Names
-pub mod Fits
-pub mod Runs
-pub mod Complete
-pub mod Total
-pub mod Spelled
+pub mod DigitValues
+pub mod GapLengths
+pub mod NameBytes
+pub mod TokensInText
+pub mod ScannedRuns
+pub mod ScannerComplete
+pub mod ScannerTotal
+pub mod SpelledNames

@@ -1,12 +1,13 @@
 -- The bytes of a text, by what they may stand for.
-use Rattle.std.specs.Prelude.{ℕ, Bool, ◌||◌, ◌==◌, not, nat_le, ◌&&◌, List, codes, if◌then◌else◌}
+use Rattle.std.specs.Prelude.{ℕ, Bool, true, false, ◌||◌, ◌==◌, not, nat_le, ◌&&◌, List, [], ◌∷◌}
+use Rattle.std.specs.Prelude.{codes, if◌then◌else◌}
 use Rattle.std.specs.List.{list_any}
 use Rattle.ml_token.specs.declared.bytes.Run.{Run}
 use Rattle.ml_token.specs.declared.bytes.Run.TheVariants.{Alphanumeric, Digit, Symbol, Line}
-use Rattle.ml_token.specs.declared.bytes.Begun.{Begun}
-use Rattle.ml_token.specs.declared.bytes.Begun.TheVariants as opens
+use Rattle.ml_token.specs.declared.bytes.TokenStart.{TokenStart}
+use Rattle.ml_token.specs.declared.bytes.TokenStart.TheVariants as opens
 
--- a byte of the text
+-- the byte stands among these
 abbrev pub is_one_of : List ℕ → ℕ → Bool
 is_one_of bytes b = list_any (λ x. b == x) bytes
 
@@ -15,8 +16,8 @@ abbrev pub is_layout : ℕ → Bool
 is_layout b = b == 9 || b == 10 || b == 12 || b == 13 || b == 32
 
 -- a small letter
-abbrev pub is_small : ℕ → Bool
-is_small b = nat_le 97 b && nat_le b 122
+abbrev pub is_lowercase : ℕ → Bool
+is_lowercase b = nat_le 97 b && nat_le b 122
 
 -- a capital letter
 abbrev pub is_capital : ℕ → Bool
@@ -28,7 +29,7 @@ is_digit b = nat_le 48 b && nat_le b 57
 
 -- a letter, a digit or the low line
 abbrev pub is_alphanumeric : ℕ → Bool
-is_alphanumeric b = is_small b || is_capital b || is_digit b || b == 95
+is_alphanumeric b = is_lowercase b || is_capital b || is_digit b || b == 95
 
 -- a symbol character
 abbrev pub is_symbol : ℕ → Bool
@@ -42,9 +43,9 @@ in_run Symbol b = is_symbol b
 in_run Line b = not (b == 10)
 
 -- what begins with a byte that is no layout and begins no comment
-abbrev pub begun_by : ℕ → Begun
-begun_by b =
-    if is_small b then opens.Name
+abbrev pub token_start : ℕ → TokenStart
+token_start b =
+    if is_lowercase b then opens.Name
     else (if is_capital b || b == 95 then opens.Variable
     else (if is_digit b then opens.Number
     else (if is_symbol b then opens.Symbol
@@ -53,3 +54,13 @@ begun_by b =
     else (if is_one_of (codes "()[]{},|") b then opens.Punct
     else (if is_one_of (codes "\"`") b then opens.LeftOutQuote
     else opens.Nothing)))))))
+
+-- the text begins with this byte
+abbrev pub begins_with : ℕ → List ℕ → Bool
+begins_with b [] = false
+begins_with b (x ∷ xs) = x == b
+
+-- a full stop before these bytes ends a clause
+abbrev pub ends_clause : List ℕ → Bool
+ends_clause [] = true
+ends_clause (b ∷ bs) = is_layout b || b == 37

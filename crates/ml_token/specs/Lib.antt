@@ -1,7 +1,7 @@
+pub mod Limits
 pub mod Bytes
-pub mod Gap
 pub mod Number
 pub mod Quoted
-pub mod Tokens
 pub mod Language
 pub mod Values
+pub mod inside

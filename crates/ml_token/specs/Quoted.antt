@@ -1,6 +1,7 @@
 -- Quoted names.
-use Rattle.std.specs.Prelude.{◌≤◌, ℕ, zero, suc, ◌+◌, ◌-◌, ◌==◌, ◌&&◌, nat_le, List, [], ◌∷◌, length, Option, Some, None, Result, Ok, Err, if◌then◌else◌}
-use Rattle.ml_token.specs.declared.limits.TheConstants.{LONGEST_NAME}
+use Rattle.std.specs.Prelude.{◌≤◌, ℕ, zero, suc, ◌+◌, ◌-◌, ◌==◌, ◌&&◌, nat_le, List, [], ◌∷◌}
+use Rattle.std.specs.Prelude.{length, Option, Some, None, Result, Ok, Err, if◌then◌else◌}
+use Rattle.ml_token.specs.Limits.{max_name_bytes}
 use Rattle.ml_token.specs.declared.quoted.Part.{Part}
 use Rattle.ml_token.specs.declared.quoted.Part.TheVariants.{Spelled, Last}
 use Rattle.ml_token.specs.declared.quoted.Ending.{Ending}
@@ -8,7 +9,8 @@ use Rattle.ml_token.specs.declared.quoted.Ending.TheVariants.{Closed, LeftOpen, 
 use Rattle.ml_token.specs.declared.tokens.Token.{Token}
 use Rattle.ml_token.specs.declared.tokens.TokenFault.{TokenFault}
 use Rattle.ml_token.specs.declared.tokens.TokenKind.TheVariants.{QuotedName}
-use Rattle.ml_token.specs.declared.tokens.TokenFaultKind.TheVariants.{BadCharacter, BadEscape, OpenQuote, NameTooLong}
+use Rattle.ml_token.specs.declared.tokens.TokenFaultKind.TheVariants.{BadCharacter, BadEscape}
+use Rattle.ml_token.specs.declared.tokens.TokenFaultKind.TheVariants.{OpenQuote, NameTooLong}
 
 -- the byte that a backslash before this byte spells
 abbrev pub escape_of : ℕ → Option ℕ
@@ -27,14 +29,14 @@ escape_of b =
     else None))))))))))
 
 -- an escape that spells this byte, if any
-abbrev pub escaped : Option ℕ → Part
-escaped (Some v) = Spelled v 2
-escaped None = Last (Broken BadEscape)
+abbrev pub escape_part : Option ℕ → Part
+escape_part (Some v) = Spelled v 2
+escape_part None = Last (Broken BadEscape)
 
 -- what a backslash and these bytes begin with
 abbrev pub behind_backslash : List ℕ → Part
 behind_backslash [] = Last LeftOpen
-behind_backslash (b ∷ bs) = escaped (escape_of b)
+behind_backslash (b ∷ bs) = escape_part (escape_of b)
 
 -- what a quote and these bytes begin with: two quotes spell one
 abbrev pub behind_quote : List ℕ → Part
@@ -57,7 +59,8 @@ IsWithin (Spelled v n) len = (1 ≤ n) × (n ≤ len)
 IsWithin (Last Closed) len = 1 ≤ len
 IsWithin (Last ending) len = Unit {0}
 
--- the text between the quotes: the name that it spells, how many bytes of it spell the name, and what ends it
+-- the text between the quotes: the name that it spells, how many bytes of it spell the name, and
+-- what ends it
 pub record Inside : Type 0 where
   pub name : List ℕ
   pub width : ℕ
@@ -65,7 +68,8 @@ pub record Inside : Type 0 where
 
 -- one more byte, which `n` bytes of the text spell
 abbrev pub with_byte : ℕ → ℕ → Inside → Inside
-with_byte v n after = record { name = v ∷ after.name; width = n + after.width; ending = after.ending }
+with_byte v n after =
+    record { name = v ∷ after.name; width = n + after.width; ending = after.ending }
 
 -- what stands between the quotes, in a text whose first `skip` bytes belong to an escape before it
 abbrev pub inside : ℕ → List ℕ → Inside
@@ -76,15 +80,16 @@ inside zero (b ∷ bs) = elim (part_of (b ∷ bs)) [
   | Last ending ↦ record { name = []; width = 0; ending = ending }
 ]
 
--- what an ending makes of a name whose quote stands at `from`, and whose text between the quotes took this width
+-- what an ending makes of a name whose quote stands at `from`, and whose text between the quotes
+-- took this width
 abbrev pub quoted_end : ℕ → ℕ → Ending → Result Token TokenFault
 quoted_end from width Closed = Ok (record { kind = QuotedName; from = from; to = from + width + 2 })
 quoted_end from width LeftOpen = Err (record { place = from; kind = OpenQuote })
 quoted_end from width (Broken kind) = Err (record { place = from + 1 + width; kind = kind })
 
 -- the token of a name whose opening quote stands at `from`, before this text, or its first defect
-abbrev pub quoted_name : ℕ → List ℕ → Result Token TokenFault
-quoted_name from text =
+abbrev pub quoted_token : ℕ → List ℕ → Result Token TokenFault
+quoted_token from text =
     let q = inside 0 text in
-    if nat_le (length q.name) LONGEST_NAME then quoted_end from q.width q.ending
+    if nat_le (length q.name) max_name_bytes then quoted_end from q.width q.ending
     else Err (record { place = from; kind = NameTooLong })

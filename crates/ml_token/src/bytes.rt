@@ -1,7 +1,7 @@
-// Bytes by what they may stand for, and runs of them.
+//! Bytes by what they may stand for, and runs of them.
 ghost use Rattle.std.specs.Prelude.{◌≡◌, ◌≤◌, length};
 ghost use Rattle.std.specs.List.{prefix_len};
-ghost use Rattle.ml_token.specs.Bytes.{is_layout, is_symbol, in_run, begun_by};
+ghost use Rattle.ml_token.specs.Bytes.{is_layout, is_symbol, in_run, token_start};
 
 /// Bytes that may stand side by side in a token or a comment.
 #[derive(Clone, Copy, Debug, PartialEq, Eq)]
@@ -14,7 +14,7 @@ pub enum Run {
 
 /// What begins with a byte.
 #[derive(Clone, Copy, Debug, PartialEq, Eq)]
-pub enum Begun {
+pub enum TokenStart {
     Name,
     Variable,
     Number,
@@ -49,7 +49,7 @@ pub fn in_run(run: Run, b: u8) -> bool
     }
 }
 
-// How many bytes at the front are of the run.
+/// How many bytes at the front are of the run.
 pub fn run_len(run: Run, bytes: &[u8]) -> usize
     ensures run { result ≡ prefix_len (in_run run) bytes.now }
     ensures within { result ≤ length bytes.now }
@@ -66,26 +66,26 @@ pub fn run_len(run: Run, bytes: &[u8]) -> usize
     n
 }
 
-pub fn begun_by(b: u8) -> Begun
-    ensures { result ≡ begun_by b }
+pub fn token_start(b: u8) -> TokenStart
+    ensures { result ≡ token_start b }
 {
     if b.is_ascii_lowercase() {
-        Begun::Name
+        TokenStart::Name
     } else if b.is_ascii_uppercase() || b == b'_' {
-        Begun::Variable
+        TokenStart::Variable
     } else if b.is_ascii_digit() {
-        Begun::Number
+        TokenStart::Number
     } else if is_symbol(b) {
-        Begun::Symbol
+        TokenStart::Symbol
     } else if b == b'\'' {
-        Begun::Quote
+        TokenStart::Quote
     } else if b == b'!' || b == b';' {
-        Begun::Solo
+        TokenStart::Solo
     } else if b"()[]{},|".contains(&b) {
-        Begun::Punct
+        TokenStart::Punct
     } else if b == b'"' || b == b'`' {
-        Begun::LeftOutQuote
+        TokenStart::LeftOutQuote
     } else {
-        Begun::Nothing
+        TokenStart::Nothing
     }
 }

@@ -1,6 +1,7 @@
-// Layout and comments, which separate tokens.
+//! Layout and comments, which separate tokens.
 ghost use Rattle.std.specs.Prelude.{◌≡◌, ◌+◌, ◌≤◌, length, IfSome};
-ghost use Rattle.ml_token.specs.Gap.{begins_with, block_comment_len, piece_len, slash_len, gap_len};
+ghost use Rattle.ml_token.specs.inside.Gap.{block_comment_len, piece_len, slash_len, gap_len};
+ghost use Rattle.ml_token.specs.Bytes.{begins_with};
 
 use crate::bytes::{Run, is_layout, run_len};
 
@@ -66,7 +67,8 @@ fn piece_len(bytes: &[u8]) -> usize
     }
 }
 
-// How many bytes of layout and comments stand first. A comment that nothing closes is none of them.
+/// How many bytes of layout and comments stand first. A comment that nothing closes is none of
+/// them.
 pub fn gap_len(bytes: &[u8]) -> usize
     ensures len { result ≡ gap_len 0 bytes.now }
     ensures within { result ≤ length bytes.now }

@@ -1,8 +1,9 @@
-// Quoted names: what may stand between the quotes, and what it spells.
+//! Quoted names: what may stand between the quotes, and what it spells.
 ghost use Rattle.std.specs.Prelude.{◌≡◌, ◌+◌, ◌≤◌, ◌<◌, ◌^◌, length};
-ghost use Rattle.ml_token.specs.Quoted.{escape_of, escaped, behind_backslash, behind_quote, part_of, inside, quoted_end, quoted_name, IsWithin};
+ghost use Rattle.ml_token.specs.Quoted.{escape_of, escape_part, behind_backslash, behind_quote};
+ghost use Rattle.ml_token.specs.Quoted.{part_of, inside, quoted_end, quoted_token, IsWithin};
 
-use crate::limits::LONGEST_NAME;
+use crate::limits::MAX_NAME_BYTES;
 use crate::tokens::{Token, TokenFault, TokenFaultKind, TokenKind};
 
 /// What ends the text between the quotes.
@@ -104,10 +105,11 @@ fn quoted_end(from: usize, width: usize, ending: Ending) -> Result<Token, TokenF
     }
 }
 
-/// The token of the name whose opening quote stands at `from`, before this text, or its first defect.
-pub fn quoted_name(from: usize, text: &[u8]) -> Result<Token, TokenFault>
+/// The token of the name whose opening quote stands at `from`, before this text, or its first
+/// defect.
+pub fn quoted_token(from: usize, text: &[u8]) -> Result<Token, TokenFault>
     requires { from + length text.now + 2 < 2 ^ 64 }
-    ensures { result ≡ quoted_name from text.now }
+    ensures { result ≡ quoted_token from text.now }
 {
     let mut held = 0;
     let mut width = 0;
@@ -116,7 +118,7 @@ pub fn quoted_name(from: usize, text: &[u8]) -> Result<Token, TokenFault>
         match part_of(rest) {
             Part::Last(ending) => return quoted_end(from, width, ending),
             Part::Spelled(_, step) => {
-                if held == LONGEST_NAME {
+                if held == MAX_NAME_BYTES {
                     return Err(TokenFault {
                         place: from,
                         kind: TokenFaultKind::NameTooLong,

@@ -1,22 +1,24 @@
-// The next token of a text.
+//! The next token of a text.
 ghost use Rattle.std.specs.Prelude.{◌≡◌, ◌↔◌, ◌+◌, ◌≤◌, ◌<◌, ◌^◌, length, IfOk, IfErr};
 ghost use Rattle.ml_token.specs.declared.tokens.Token.{Token};
 ghost use Rattle.ml_token.specs.declared.tokens.TokenFault.{TokenFault};
 ghost use Rattle.ml_token.specs.Language.{HasToken, HasFault, SpellsName};
-ghost use Rattle.ml_token.specs.Tokens.{sized, faulty, name_of_len, ends_clause, symbols_at, number_at, token_at, first_token};
+ghost use Rattle.ml_token.specs.inside.Tokens.{token_of_len, fault_of, name_of_len, symbols_at};
+ghost use Rattle.ml_token.specs.inside.Tokens.{number_at, token_at, first_token};
+ghost use Rattle.ml_token.specs.Bytes.{ends_clause};
 ghost use Rattle.ml_token.specs.Values.{text_of, name_of, StandsIn};
 
-use crate::bytes::{Begun, Run, begun_by, is_layout, run_len};
+use crate::bytes::{Run, TokenStart, is_layout, run_len, token_start};
 use crate::gap::{begins_with, gap_len};
-use crate::limits::LONGEST_NAME;
+use crate::limits::MAX_NAME_BYTES;
 use crate::number::small_number;
-use crate::quoted::quoted_name;
+use crate::quoted::quoted_token;
 use crate::tokens::{Token, TokenFault, TokenFaultKind, TokenKind};
 
 // The token of this many bytes.
-fn sized(kind: TokenKind, from: usize, len: usize) -> Result<Token, TokenFault>
+fn token_of_len(kind: TokenKind, from: usize, len: usize) -> Result<Token, TokenFault>
     requires { from + len < 2 ^ 64 }
-    ensures { result ≡ sized kind from len }
+    ensures { result ≡ token_of_len kind from len }
 {
     Ok(Token {
         kind,
@@ -25,8 +27,8 @@ fn sized(kind: TokenKind, from: usize, len: usize) -> Result<Token, TokenFault>
     })
 }
 
-fn faulty(kind: TokenFaultKind, place: usize) -> Result<Token, TokenFault>
-    ensures { result ≡ faulty kind place }
+fn fault_of(kind: TokenFaultKind, place: usize) -> Result<Token, TokenFault>
+    ensures { result ≡ fault_of kind place }
 {
     Err(TokenFault { place, kind })
 }
@@ -36,10 +38,10 @@ fn name_of_len(kind: TokenKind, from: usize, len: usize) -> Result<Token, TokenF
     requires { from + len < 2 ^ 64 }
     ensures { result ≡ name_of_len kind from len }
 {
-    if len <= LONGEST_NAME {
-        sized(kind, from, len)
+    if len <= MAX_NAME_BYTES {
+        token_of_len(kind, from, len)
     } else {
-        faulty(TokenFaultKind::NameTooLong, from)
+        fault_of(TokenFaultKind::NameTooLong, from)
     }
 }
 
@@ -49,8 +51,8 @@ fn number_at(from: usize, text: &[u8]) -> Result<Token, TokenFault>
 {
     let (digits, _) = text.split_at(run_len(Run::Digit, text));
     match small_number(digits) {
-        Some(_) => sized(TokenKind::Number, from, digits.len()),
-        None => faulty(TokenFaultKind::NumberTooLarge, from),
+        Some(_) => token_of_len(TokenKind::Number, from, digits.len()),
+        None => fault_of(TokenFaultKind::NumberTooLarge, from),
     }
 }
 
@@ -69,9 +71,9 @@ fn symbols_at(from: usize, b: u8, after: &[u8]) -> Result<Token, TokenFault>
     ensures { result ≡ symbols_at from b after.now }
 {
     if b == b'.' && ends_clause(after) {
-        sized(TokenKind::End, from, 1)
+        token_of_len(TokenKind::End, from, 1)
     } else if b == b'/' && begins_with(b'*', after) {
-        faulty(TokenFaultKind::OpenComment, from)
+        fault_of(TokenFaultKind::OpenComment, from)
     } else {
         name_of_len(TokenKind::Name, from, 1 + run_len(Run::Symbol, after))
     }
@@ -83,30 +85,36 @@ fn token_at(from: usize, text: &[u8]) -> Result<Token, TokenFault>
     ensures { result ≡ token_at from text.now }
 {
     let [b, after @ ..] = text else {
-        return sized(TokenKind::Eof, from, 0);
+        return token_of_len(TokenKind::Eof, from, 0);
     };
-    match begun_by(*b) {
-        Begun::Name => name_of_len(TokenKind::Name, from, run_len(Run::Alphanumeric, text)),
-        Begun::Variable => name_of_len(TokenKind::Variable, from, run_len(Run::Alphanumeric, text)),
-        Begun::Number => number_at(from, text),
-        Begun::Symbol => symbols_at(from, *b, after),
-        Begun::Quote => quoted_name(from, after),
-        Begun::Solo => sized(TokenKind::Name, from, 1),
-        Begun::Punct => sized(TokenKind::Punct, from, 1),
-        Begun::LeftOutQuote => faulty(TokenFaultKind::LeftOutQuote, from),
-        Begun::Nothing => faulty(TokenFaultKind::BadCharacter, from),
+    match token_start(*b) {
+        TokenStart::Name => name_of_len(TokenKind::Name, from, run_len(Run::Alphanumeric, text)),
+        TokenStart::Variable => name_of_len(
+            TokenKind::Variable,
+            from,
+            run_len(Run::Alphanumeric, text),
+        ),
+        TokenStart::Number => number_at(from, text),
+        TokenStart::Symbol => symbols_at(from, *b, after),
+        TokenStart::Quote => quoted_token(from, after),
+        TokenStart::Solo => token_of_len(TokenKind::Name, from, 1),
+        TokenStart::Punct => token_of_len(TokenKind::Punct, from, 1),
+        TokenStart::LeftOutQuote => fault_of(TokenFaultKind::LeftOutQuote, from),
+        TokenStart::Nothing => fault_of(TokenFaultKind::BadCharacter, from),
     }
 }
 
 /// The token that begins at or after `at`, past layout and comments, or the first defect there.
 ///
-/// Nothing is kept from one call to the next: a text is read by calls at the end of the token before.
+/// Nothing is kept from one call to the next: a text is read by calls at the end of the token
+/// before.
 pub fn next_token(bytes: &[u8], at: usize) -> Result<Token, TokenFault>
     requires { at ≤ length bytes.now }
     ensures token { (t : Token) → (result ≡ Ok t) ↔ HasToken bytes.now at t }
     ensures fault { (f : TokenFault) → (result ≡ Err f) ↔ HasFault bytes.now at f }
     ensures exact { result ≡ first_token bytes.now at }
-    ensures name { IfOk result (λ t. SpellsName t.kind (text_of bytes.now t) (name_of bytes.now t)) }
+    ensures name { IfOk result (λ t.
+        SpellsName t.kind (text_of bytes.now t) (name_of bytes.now t)) }
     ensures stands { IfOk result (StandsIn bytes.now at) }
     ensures place { IfErr result (λ fault. (at ≤ fault.place) × (fault.place < length bytes.now)) }
 {

@@ -134,8 +134,9 @@ fn every_fault_has_its_place(rt: HostRuntime) {
     }
 }
 
-// What each byte alone gives: n a name, v a variable, d a number, p a bracket or the like, e an end, w nothing up to the
-// end of the text, q an open quote, l a quote that is left out, b a bad character.
+// What each byte alone gives: n a name, v a variable, d a number, p a bracket or the like, e an
+// end, w nothing up to the end of the text, q an open quote, l a quote that is left out, b a bad
+// character.
 const ALONE: &[u8; 256] =
     b"bbbbbbbbbwwbwwbbbbbbbbbbbbbbbbbbwnlnnwnqppnnpnenddddddddddnnnnnnnvvvvvvvvvvvvvvvvvvvvvvvvvvpnpnvlnnnnnnnnnnnnnnnnnnnnnnnnnnpppnbbbbbbbbbbbbbbbbbbbbbbbbbbbbbbbbbbbbbbbbbbbbbbbbbbbbbbbbbbbbbbbbbbbbbbbbbbbbbbbbbbbbbbbbbbbbbbbbbbbbbbbbbbbbbbbbbbbbbbbbbbbbbbbbb";
 

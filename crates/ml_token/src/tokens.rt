@@ -1,9 +1,10 @@
-// Tokens and their faults, by their places in the text.
+//! Tokens and their faults, by their places in the text.
 
 /// What a token is.
 #[derive(Clone, Copy, Debug, PartialEq, Eq)]
 pub enum TokenKind {
-    /// Letters, digits and `_` behind a small letter; the longest run of symbol characters; `!` or `;`.
+    /// Letters, digits and `_` behind a small letter; the longest run of symbol characters; `!` or
+    /// `;`.
     Name,
     /// A name between two `'`.
     QuotedName,
@@ -38,9 +39,9 @@ pub enum TokenFaultKind {
     OpenComment,
     /// A backslash before another byte than those of an escape. The place of the backslash.
     BadEscape,
-    /// A number above `LARGEST_NUMBER`. The place of its first digit.
+    /// A number above `MAX_NUMBER`. The place of its first digit.
     NumberTooLarge,
-    /// A name of more than `LONGEST_NAME` bytes. The place of the token.
+    /// A name of more than `MAX_NAME_BYTES` bytes. The place of the token.
     NameTooLong,
     /// A double quote or a back quote, which begin nothing here. Its place.
     LeftOutQuote,

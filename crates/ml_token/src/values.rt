@@ -1,9 +1,10 @@
-// What tokens stand for.
+//! What tokens stand for.
 ghost use Rattle.std.specs.Prelude.{◌≡◌, ◌≤◌, length, IfOk};
 ghost use Rattle.ml_token.specs.Quoted.{inside};
 ghost use Rattle.ml_token.specs.Values.{text_of, name_of, number_of};
+ghost use Rattle.ml_token.specs.Limits.{max_number};
 
-use crate::limits::LARGEST_NUMBER;
+use crate::limits::MAX_NUMBER;
 use crate::number::small_number;
 use crate::quoted::{Part, part_of};
 use crate::tokens::{Token, TokenKind};
@@ -34,8 +35,8 @@ fn unquoted(alloc: Global, text: &[u8]) -> Result<Vec<u8>, AllocError>
     Ok(name)
 }
 
-/// The name that a token of these bytes spells: for a quoted name what its quotes hold, with its escapes taken out; for
-/// any other token its bytes. The only error is want of memory.
+/// The name that a token of these bytes spells: for a quoted name what its quotes hold, with its
+/// escapes taken out; for any other token its bytes. The only error is want of memory.
 pub fn name_text(alloc: Global, bytes: &[u8], token: &Token) -> Result<Vec<u8>, AllocError>
     requires ordered { token.now.from ≤ token.now.to }
     requires within { token.now.to ≤ length bytes.now }
@@ -56,7 +57,7 @@ pub fn name_text(alloc: Global, bytes: &[u8], token: &Token) -> Result<Vec<u8>, 
 pub fn number_value(bytes: &[u8], token: &Token) -> u64
     requires ordered { token.now.from ≤ token.now.to }
     requires within { token.now.to ≤ length bytes.now }
-    requires small { number_of bytes.now token.now ≤ LARGEST_NUMBER }
+    requires small { number_of bytes.now token.now ≤ max_number }
     ensures { result ≡ number_of bytes.now token.now }
 {
     match small_number(bytes_of(bytes, token)) {

@@ -4,8 +4,8 @@ use Rattle.std.proofs.Common.{inl, inr, refl, sym, ap, ◌∙◌, subst, arith}
 use Rattle.std.proofs.lemmas.Bool.Decides.{eqb_tells}
 use Rattle.ml_term.specs.Tree.{has, firsts, without, place_in}
 use Rattle.ml_term.specs.Text.{number_in}
-use Rattle.ml_term.proofs.Distinct.{In}
-use Rattle.ml_term.proofs.Renaming.{in_firsts}
+use Rattle.ml_term.proofs.DistinctCounts.{In}
+use Rattle.ml_term.proofs.RenamedTerms.{in_firsts}
 
 -- a list without each of some numbers
 abbrev without_all : List ℕ → List ℕ → List ℕ
@@ -47,13 +47,16 @@ firsts-without n (x ∷ xs) = elim (eqb_tells x n) [
 
 pub firsts_twice : (xs : List ℕ) → firsts (firsts xs) ≡ firsts xs
 firsts_twice [] = refl
-firsts_twice (x ∷ xs) = ap (λ z. x ∷ without x z) (firsts-without x (firsts xs) ∙ ap (without x) (firsts_twice xs)) ∙ ap (λ z. x ∷ z) (without_twice x (firsts xs))
+firsts_twice (x ∷ xs) =
+    ap (λ z. x ∷ without x z) (firsts-without x (firsts xs) ∙ ap (without x) (firsts_twice xs)) ∙ ap (λ z. x ∷ z) (without_twice x (firsts xs))
 
 without_all_without : (n : ℕ) (xs ys : List ℕ) → without n (without_all (without n xs) ys) ≡ without n (without_all xs ys)
 without_all_without n [] ys = refl
 without_all_without n (x ∷ xs) ys = elim (eqb_tells x n) [
-  | inl q ↦ rw q.0 (subst (λ z. without n (without_all (without n xs) ys) ≡ without n (without z (without_all xs ys))) (sym q.1) (without_all_without n xs ys ∙ sym (without_twice n (without_all xs ys))))
-  | inr q ↦ rw q.0 (without_swapped n x (without_all (without n xs) ys) ∙ (ap (without x) (without_all_without n xs ys) ∙ without_swapped x n (without_all xs ys)))
+  | inl q ↦ rw q.0 (subst (λ z. without n (without_all (without n xs) ys) ≡ without n (without z (without_all xs ys))) (sym q.1) (without_all_without n xs ys
+      ∙ sym (without_twice n (without_all xs ys))))
+  | inr q ↦ rw q.0 (without_swapped n x (without_all (without n xs) ys) ∙ (ap (without x) (without_all_without n xs ys)
+      ∙ without_swapped x n (without_all xs ys)))
 ]
 
 without_firsts : (xs ys : List ℕ) → without_all (firsts xs) ys ≡ without_all xs ys
@@ -64,7 +67,8 @@ without_firsts (x ∷ xs) ys = without_all_without x (firsts xs) ys ∙ ap (with
 pub firsts_before : (xs ys : List ℕ) → firsts (firsts xs ++ ys) ≡ firsts (xs ++ ys)
 firsts_before xs ys =
     firsts-append (firsts xs) ys
-    ∙ (ap (λ z. z ++ without_all (firsts xs) (firsts ys)) (firsts_twice xs) ∙ (ap (λ z. firsts xs ++ z) (without_firsts xs (firsts ys)) ∙ sym (firsts-append xs ys)))
+    ∙ (ap (λ z. z ++ without_all (firsts xs) (firsts ys)) (firsts_twice xs) ∙ (ap (λ z. firsts xs ++ z) (without_firsts xs (firsts ys))
+    ∙ sym (firsts-append xs ys)))
 
 -- one number more
 without_all_one : (n : ℕ) (xs : List ℕ) → without_all xs (n ∷ []) ≡ cond (has n xs) [] (n ∷ [])

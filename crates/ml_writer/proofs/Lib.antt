@@ -1,7 +1,7 @@
 pub mod FirstPlaces
-pub mod MetNumbers
-pub mod Texts
-pub mod Results
-pub mod Appended
-pub mod Bindings
-pub mod Cuts
+pub mod VariableNumbers
+pub mod TermTexts
+pub mod WriteResults
+pub mod AppendedTexts
+pub mod BindingTexts
+pub mod LineCuts

@@ -1,7 +1,3 @@
 pub mod Output
-pub mod Layout
 pub mod AnswerText
-pub mod PieceText
-pub mod DraftText
-pub mod MetTable
-pub mod Parts
+pub mod inside

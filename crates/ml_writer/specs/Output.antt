@@ -1,5 +1,5 @@
--- What was written: finished lines, the text of a line that isn't finished, and how many bytes are counted as those of answers. The code keeps all bytes
--- in one list, and how long each line is.
+-- What was written: finished lines, the text of a line that isn't finished, and how many bytes are
+-- counted as those of answers. The code keeps all bytes in one list, and how long each line is.
 use Rattle.std.specs.Prelude.{ℕ, ◌+◌, List, [], ◌∷◌, ◌++◌, length}
 use Rattle.std.specs.List.{flat_map}
 

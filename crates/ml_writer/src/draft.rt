@@ -13,11 +13,14 @@ pub struct Draft {
 
 impl Model for Draft {
     ghost use Rattle.std.specs.Prelude.{◌≤◌, length, take, drop};
-    ghost use Rattle.ml_writer.specs.DraftText.{DraftText};
+    ghost use Rattle.ml_writer.specs.inside.DraftText.{DraftText};
 
     ghost Value = { DraftText };
 
-    ghost view = { λ d. record { before = take d.start d.bytes.items; text = drop d.start d.bytes.items } };
+    ghost view = { λ d. record {
+      before = take d.start d.bytes.items;
+      text = drop d.start d.bytes.items;
+    } };
 
     ghost invariant = { λ d. d.start ≤ length d.bytes.items };
 }

@@ -1,22 +1,24 @@
 //! The lines of a session.
-ghost use Rattle.std.specs.Prelude.{◌≡◌, ◌+◌, ◌-◌, ◌≤◌, ◌<◌, [], ◌∷◌, ◌++◌, length, vec_len, vec_capacity, IfOk, OnOk, OnErr, IsErrOf};
+ghost use Rattle.std.specs.Prelude.{◌≡◌, ◌+◌, ◌-◌, ◌≤◌, ◌<◌, [], ◌∷◌, ◌++◌, length, vec_len};
+ghost use Rattle.std.specs.Prelude.{vec_capacity, IfOk, OnOk, OnErr, IsErrOf};
 ghost use Rattle.ml_term.specs.Seen.{seen};
 ghost use Rattle.ml_term.specs.Text.{text_of};
-ghost use Rattle.ml_search.specs.Limits.{most_answer_bytes};
+ghost use Rattle.ml_search.specs.Limits.{max_answer_bytes};
 ghost use Rattle.ml_search.specs.Session.{goal_line, count_line, error_line};
 ghost use Rattle.ml_writer.specs.Output.{no_output, bytes_of, with_text, with_line, with_counted};
 ghost use Rattle.ml_writer.specs.AnswerText.{line_of_answer, bindings_seen};
-ghost use Rattle.ml_writer.specs.PieceText.{piece_text};
+ghost use Rattle.ml_writer.specs.inside.PieceText.{piece_text};
 
-use crate::limits::MOST_ANSWER_BYTES;
+use crate::limits::MAX_ANSWER_BYTES;
 use crate::piece::{Piece, append, append_within};
 use crate::stop::LineStop;
 use ml_term::{Name, Term};
 use std::alloc::{AllocError, Global};
 use std::marker::Model;
 
-/// The lines of a session, as they are written one after another. Contracts see the finished lines, each with its line feed, the text of a line that
-/// isn't finished, and the number of answer bytes. After each refusal the lines are as before.
+/// The lines of a session, as they are written one after another. Contracts see the finished lines,
+/// each with its line feed, the text of a line that isn't finished, and the number of answer bytes.
+/// After each refusal the lines are as before.
 #[derive(Drop)]
 pub struct Lines {
     bytes: Vec<u8>,
@@ -30,7 +32,7 @@ impl Model for Lines {
 
     ghost Value = { Output };
 
-    ghost use Rattle.ml_writer.specs.Layout.{output_of, IsLaidOut};
+    ghost use Rattle.ml_writer.specs.inside.Layout.{output_of, IsLaidOut};
 
     ghost view = { λ l. output_of l.bytes.items l.lengths.items l.answer_bytes };
 
@@ -65,7 +67,8 @@ impl Lines {
         })
     }
 
-    /// The bytes of all lines, one after another, each with its line feed, and then those of the line that isn't finished.
+    /// The bytes of all lines, one after another, each with its line feed, and then those of the
+    /// line that isn't finished.
     pub fn bytes(&self) -> &[u8]
         ensures { result.now ≡ bytes_of self.now }
     {
@@ -96,23 +99,27 @@ impl Lines {
         self.add(&Piece::Error(t))
     }
 
-    /// Writes a line of an answer: two spaces, and `NAME = TERM` for each of these with `, ` between, or `true` where there is none.
-    /// The unbound variables of all terms together are numbered by first place. The line counts with its spaces and its line feed.
+    /// Writes a line of an answer: two spaces, and `NAME = TERM` for each of these with `, `
+    /// between, or `true` where there is none. The unbound variables of all terms together are
+    /// numbered by first place. The line counts with its spaces and its line feed.
     pub fn answer(&mut self, terms: &[(Name, Term)]) -> Result<(), LineStop>
-        ensures written { let l = line_of_answer (bindings_seen terms.now) in OnOk result (self.new ≡ with_counted l (with_line l self.old)) }
+        ensures written { let l = line_of_answer (bindings_seen terms.now) in
+            OnOk result (self.new ≡ with_counted l (with_line l self.old)) }
         ensures refused { OnErr result (self.new ≡ self.old) }
-        ensures fits { OnOk result (self.old.answer_bytes + length (line_of_answer (bindings_seen terms.now)) ≤ most_answer_bytes) }
-        ensures full { IsErrOf result LineStop.Full → most_answer_bytes < self.old.answer_bytes + length (line_of_answer (bindings_seen terms.now)) }
+        ensures fits { let l = line_of_answer (bindings_seen terms.now) in
+            OnOk result (self.old.answer_bytes + length l ≤ max_answer_bytes) }
+        ensures full { let l = line_of_answer (bindings_seen terms.now) in
+            IsErrOf result LineStop.Full → max_answer_bytes < self.old.answer_bytes + length l }
     {
         self.lengths.reserve(1)?;
-        let room = MOST_ANSWER_BYTES - self.answer_bytes;
+        let room = MAX_ANSWER_BYTES - self.answer_bytes;
         let count = append_within(&mut self.bytes, &Piece::Answer(terms), room)?;
         self.answer_bytes += count;
         finish(&self.bytes, &mut self.lengths, &mut self.finished);
         Ok(())
     }
 
-    /// Writes a line that doesn't count.
+    // Writes a line that doesn't count.
     fn add(&mut self, piece: &Piece<'_>) -> Result<(), AllocError>
         ensures written { OnOk result (self.new ≡ with_line (piece_text piece.now) self.old) }
         ensures refused { OnErr result (self.new ≡ self.old) }
@@ -124,11 +131,12 @@ impl Lines {
     }
 }
 
-/// Ends the line that isn't finished, where there is room for its length.
+// Ends the line that isn't finished, where there is room for its length.
 fn finish(bytes: &Vec<u8>, lengths: &mut Vec<usize>, finished: &mut usize)
     requires room { vec_len lengths.old < vec_capacity lengths.old }
     requires within { finished.old ≤ vec_len bytes.now }
-    ensures lengths { lengths.new.items ≡ lengths.old.items ++ (length bytes.now.items - finished.old) ∷ [] }
+    ensures lengths { lengths.new.items ≡ lengths.old.items
+        ++ (length bytes.now.items - finished.old) ∷ [] }
     ensures finished { finished.new ≡ length bytes.now.items }
 {
     match lengths.push(bytes.len() - *finished) {
@@ -137,15 +145,18 @@ fn finish(bytes: &Vec<u8>, lengths: &mut Vec<usize>, finished: &mut usize)
     }
 }
 
-/// Writes a term's text behind all others, in a line that isn't finished by it. Its unbound variables are numbered by first place in the term.
-/// Its bytes count as answer bytes.
+/// Writes a term's text behind all others, in a line that isn't finished by it. Its unbound
+/// variables are numbered by first place in the term. Its bytes count as answer bytes.
 pub fn write_term(t: &Term, out: &mut Lines) -> Result<(), LineStop>
-    ensures written { let text = text_of (seen t.now) [] in OnOk result (out.new ≡ with_counted text (with_text text out.old)) }
+    ensures written { let text = text_of (seen t.now) [] in
+        OnOk result (out.new ≡ with_counted text (with_text text out.old)) }
     ensures refused { OnErr result (out.new ≡ out.old) }
-    ensures fits { OnOk result (out.old.answer_bytes + length (text_of (seen t.now) []) ≤ most_answer_bytes) }
-    ensures full { IsErrOf result LineStop.Full → most_answer_bytes < out.old.answer_bytes + length (text_of (seen t.now) []) }
+    ensures fits { let text = text_of (seen t.now) [] in
+        OnOk result (out.old.answer_bytes + length text ≤ max_answer_bytes) }
+    ensures full { let text = text_of (seen t.now) [] in IsErrOf result LineStop.Full
+        → max_answer_bytes < out.old.answer_bytes + length text }
 {
-    let room = MOST_ANSWER_BYTES - out.answer_bytes;
+    let room = MAX_ANSWER_BYTES - out.answer_bytes;
     let count = append_within(&mut out.bytes, &Piece::Term(t), room)?;
     out.answer_bytes += count;
     Ok(())

@@ -9,14 +9,14 @@ use std::marker::Model;
 
 /// The variables that a line met. Contracts see their list, each once, by first place.
 #[derive(Drop)]
-pub struct Met {
+pub struct MetVariables {
     variables: Vec<u32>,
     numbers: BTreeMap<u32, u64>,
 }
 
-impl Model for Met {
+impl Model for MetVariables {
     ghost use Rattle.std.specs.Prelude.{List, ℕ};
-    ghost use Rattle.ml_writer.specs.MetTable.{IsMetTable};
+    ghost use Rattle.ml_writer.specs.inside.MetTable.{IsMetTable};
 
     ghost Value = { List ℕ };
 
@@ -25,20 +25,22 @@ impl Model for Met {
     ghost invariant = { λ m. IsMetTable m.variables.items m.numbers };
 }
 
-impl Met {
+impl MetVariables {
     /// No variables.
-    pub fn new(alloc: Global) -> Met
+    pub fn new(alloc: Global) -> MetVariables
         ensures { result ≡ [] }
     {
-        Met {
+        MetVariables {
             variables: Vec::new(alloc),
             numbers: BTreeMap::new(alloc),
         }
     }
 
-    /// The number of a variable, from 1. One that the line hasn't met gets the next number, and is met from then on.
+    /// The number of a variable, from 1. One that the line hasn't met gets the next number, and is
+    /// met from then on.
     pub fn number(&mut self, variable: u32) -> Result<u64, AllocError>
-        ensures number { IfOk result (λ n. n ≡ number_in (firsts (self.old ++ variable ∷ [])) variable) }
+        ensures number { IfOk result (λ n.
+            n ≡ number_in (firsts (self.old ++ variable ∷ [])) variable) }
         ensures met { OnOk result (self.new ≡ firsts (self.old ++ variable ∷ [])) }
     {
         match self.numbers.get(&variable).copied() {
@@ -47,10 +49,11 @@ impl Met {
         }
     }
 
-    /// Gives a variable that the line hasn't met the next number.
+    // Gives a variable that the line hasn't met the next number.
     fn add(&mut self, variable: u32) -> Result<u64, AllocError>
         requires { has variable self.old ≡ false }
-        ensures number { IfOk result (λ n. n ≡ number_in (firsts (self.old ++ variable ∷ [])) variable) }
+        ensures number { IfOk result (λ n.
+            n ≡ number_in (firsts (self.old ++ variable ∷ [])) variable) }
         ensures met { OnOk result (self.new ≡ firsts (self.old ++ variable ∷ [])) }
     {
         let number = self.variables.len() as u64 + 1;

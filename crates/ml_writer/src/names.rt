@@ -1,50 +1,52 @@
 //! The text of names.
 ghost use Rattle.std.specs.Prelude.{◌≡◌, ◌++◌, OnOk};
 ghost use Rattle.std.specs.List.{list_all};
-ghost use Rattle.ml_term.specs.Text.{atom_text, is_alphanumeric, is_bare, is_lowercase, is_solo, is_symbol, is_symbol_name, is_word, opens_comment, quoted_byte};
+ghost use Rattle.ml_term.specs.Text.{atom_text, is_alphanumeric, is_bare, is_lowercase, is_solo};
+ghost use Rattle.ml_term.specs.Text.{is_symbol, is_symbol_name, is_word, opens_comment};
+ghost use Rattle.ml_term.specs.Text.{quoted_byte};
 
 use crate::draft::Draft;
 use std::alloc::AllocError;
 
-/// The letters of the escapes for the bytes 7 to 13.
+// The letters of the escapes for the bytes 7 to 13.
 const ESCAPE_LETTERS: [u8; 7] = *b"abtnvfr";
 
-/// Whether a byte is a small letter.
+// Whether a byte is a small letter.
 fn is_lowercase(b: u8) -> bool
     ensures { result ≡ is_lowercase b }
 {
     b.is_ascii_lowercase()
 }
 
-/// Whether a byte is a letter, a digit or `_`.
+// Whether a byte is a letter, a digit or `_`.
 fn is_alphanumeric(b: u8) -> bool
     ensures { result ≡ is_alphanumeric b }
 {
     b.is_ascii_alphanumeric() || b == b'_'
 }
 
-/// Whether a byte is a symbol character.
+// Whether a byte is a symbol character.
 fn is_symbol(b: u8) -> bool
     ensures { result ≡ is_symbol b }
 {
     b"+-*/\\^<>=~:.?@#&$".contains(&b)
 }
 
-/// Whether each byte is a letter, a digit or `_`.
+// Whether each byte is a letter, a digit or `_`.
 fn are_alphanumeric(bytes: &[u8]) -> bool
     ensures { result ≡ list_all is_alphanumeric bytes.now }
 {
     bytes.iter().all(|b| is_alphanumeric(*b))
 }
 
-/// Whether each byte is a symbol character.
+// Whether each byte is a symbol character.
 fn are_symbols(bytes: &[u8]) -> bool
     ensures { result ≡ list_all is_symbol bytes.now }
 {
     bytes.iter().all(|b| is_symbol(*b))
 }
 
-/// Whether a name is a small letter followed by letters, digits and `_`.
+// Whether a name is a small letter followed by letters, digits and `_`.
 fn is_word(name: &[u8]) -> bool
     ensures { result ≡ is_word name.now }
 {
@@ -54,7 +56,7 @@ fn is_word(name: &[u8]) -> bool
     }
 }
 
-/// Whether a name begins a comment.
+// Whether a name begins a comment.
 fn opens_comment(name: &[u8]) -> bool
     ensures { result ≡ opens_comment name.now }
 {
@@ -64,7 +66,7 @@ fn opens_comment(name: &[u8]) -> bool
     }
 }
 
-/// Whether a name is a run of symbol characters that is read back as this name.
+// Whether a name is a run of symbol characters that is read back as this name.
 fn is_symbol_name(name: &[u8]) -> bool
     ensures { result ≡ is_symbol_name name.now }
 {
@@ -74,7 +76,7 @@ fn is_symbol_name(name: &[u8]) -> bool
     }
 }
 
-/// Whether a name is one of those that stand for themselves.
+// Whether a name is one of those that stand for themselves.
 fn is_solo(name: &[u8]) -> bool
     ensures { result ≡ is_solo name.now }
 {
@@ -84,14 +86,14 @@ fn is_solo(name: &[u8]) -> bool
         || name == b";".as_slice()
 }
 
-/// Whether a name is written without quotes.
+// Whether a name is written without quotes.
 fn is_bare(name: &[u8]) -> bool
     ensures { result ≡ is_bare name.now }
 {
     is_word(name) || is_symbol_name(name) || is_solo(name)
 }
 
-/// Puts a byte of a quoted name behind a text, with its escape where it has one.
+// Puts a byte of a quoted name behind a text, with its escape where it has one.
 fn put_quoted(b: u8, out: &mut Draft) -> Result<(), AllocError>
     ensures kept { out.new.before ≡ out.old.before }
     ensures text { OnOk result (out.new.text ≡ out.old.text ++ quoted_byte b) }

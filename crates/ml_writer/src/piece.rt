@@ -1,15 +1,16 @@
 //! What one call writes.
-ghost use Rattle.std.specs.Prelude.{◌≡◌, ◌≤◌, ◌<◌, [], ◌++◌, length, codes, IfOk, OnOk, OnErr, IsErrOf};
+ghost use Rattle.std.specs.Prelude.{◌≡◌, ◌≤◌, ◌<◌, [], ◌++◌, length, codes, IfOk, OnOk, OnErr};
+ghost use Rattle.std.specs.Prelude.{IsErrOf};
 ghost use Rattle.ml_term.specs.Seen.{seen};
 ghost use Rattle.ml_term.specs.Text.{text_of};
 ghost use Rattle.ml_term.specs.Tree.{variables};
 ghost use Rattle.ml_search.specs.Session.{bindings_text};
 ghost use Rattle.ml_writer.specs.AnswerText.{bindings_seen, names_of, terms_of};
-ghost use Rattle.ml_writer.specs.Parts.{MeetTheSame};
-ghost use Rattle.ml_writer.specs.PieceText.{piece_text};
+ghost use Rattle.ml_writer.specs.inside.Parts.{MeetTheSame};
+ghost use Rattle.ml_writer.specs.inside.PieceText.{piece_text};
 
 use crate::draft::Draft;
-use crate::met::Met;
+use crate::met::MetVariables;
 use crate::numbers::put_number;
 use crate::stop::LineStop;
 use crate::terms::put_term;
@@ -71,13 +72,13 @@ pub fn append(bytes: &mut Vec<u8>, piece: &Piece<'_>) -> Result<(), AllocError>
     result
 }
 
-/// Puts a term or a line behind a text. A line has its line feed.
+// Puts a term or a line behind a text. A line has its line feed.
 fn put_piece(alloc: Global, piece: &Piece<'_>, out: &mut Draft) -> Result<(), AllocError>
     ensures kept { out.new.before ≡ out.old.before }
     ensures text { OnOk result (out.new.text ≡ out.old.text ++ piece_text piece.now) }
 {
     match *piece {
-        Piece::Term(t) => put_term(t, &mut Met::new(alloc), out),
+        Piece::Term(t) => put_term(t, &mut MetVariables::new(alloc), out),
         Piece::Goal(j) => {
             out.put(b"goal ")?;
             put_number(u64::from(j), out)?;
@@ -90,21 +91,27 @@ fn put_piece(alloc: Global, piece: &Piece<'_>, out: &mut Draft) -> Result<(), Al
         }
         Piece::Error(t) => {
             out.put(b"  error ")?;
-            put_term(t, &mut Met::new(alloc), out)?;
+            put_term(t, &mut MetVariables::new(alloc), out)?;
             out.put(b"\n")
         }
         Piece::Answer(bindings) => {
             out.put(b"  ")?;
-            put_bindings(bindings, &mut Met::new(alloc), out)?;
+            put_bindings(bindings, &mut MetVariables::new(alloc), out)?;
             out.put(b"\n")
         }
     }
 }
 
-/// Puts `NAME = TERM` for each of these behind a text, with `, ` between, or `true` where there is none.
-fn put_bindings(bindings: &[(Name, Term)], met: &mut Met, out: &mut Draft) -> Result<(), AllocError>
+// Puts `NAME = TERM` for each of these behind a text, with `, ` between, or `true` where there is
+// none.
+fn put_bindings(
+    bindings: &[(Name, Term)],
+    met: &mut MetVariables,
+    out: &mut Draft,
+) -> Result<(), AllocError>
     ensures kept { out.new.before ≡ out.old.before }
-    ensures text { OnOk result (out.new.text ≡ out.old.text ++ bindings_text (names_of (bindings_seen bindings.now)) (terms_of (bindings_seen bindings.now)) met.old) }
+    ensures text { OnOk result (out.new.text ≡ out.old.text ++ bindings_text
+        (names_of (bindings_seen bindings.now)) (terms_of (bindings_seen bindings.now)) met.old) }
 {
     let Some((first, rest)) = bindings.split_first() else {
         return out.put(b"true");
@@ -117,10 +124,15 @@ fn put_bindings(bindings: &[(Name, Term)], met: &mut Met, out: &mut Draft) -> Re
     Ok(())
 }
 
-/// Puts `NAME = TERM` behind a text.
-fn put_binding(binding: &(Name, Term), met: &mut Met, out: &mut Draft) -> Result<(), AllocError>
+// Puts `NAME = TERM` behind a text.
+fn put_binding(
+    binding: &(Name, Term),
+    met: &mut MetVariables,
+    out: &mut Draft,
+) -> Result<(), AllocError>
     ensures kept { out.new.before ≡ out.old.before }
-    ensures text { OnOk result (out.new.text ≡ out.old.text ++ (binding.now.0 ++ codes " = " ++ text_of (seen binding.now.1) met.old)) }
+    ensures text { OnOk result (out.new.text ≡ out.old.text
+        ++ (binding.now.0 ++ codes " = " ++ text_of (seen binding.now.1) met.old)) }
     ensures met { OnOk result (MeetTheSame met.new (met.old ++ variables (seen binding.now.1))) }
 {
     let (name, term) = binding;

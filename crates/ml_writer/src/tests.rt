@@ -1,7 +1,7 @@
 //! Each call that allocates on its happy path, and tables of texts.
 ghost use Rattle.std.specs.Prelude.{◌≤◌, length};
 
-use crate::{LineStop, Lines, MOST_ANSWER_BYTES, term_text, write_term};
+use crate::{LineStop, Lines, MAX_ANSWER_BYTES, term_text, write_term};
 use ml_term::{Args, Name, Term, is_name};
 use std::alloc::{AllocError, Global};
 use std::process::Abort;
@@ -213,7 +213,7 @@ fn answers_fit_up_to_the_limit(rt: HostRuntime) -> Result<(), Fail> {
     fill(&rt, alloc, &mut lines)?;
     lines.goal(1)?;
     let full = lines.bytes().len();
-    assert_eq!(rt; full, MOST_ANSWER_BYTES - 16 + 7);
+    assert_eq!(rt; full, MAX_ANSWER_BYTES - 16 + 7);
     let ten = atom(&rt, alloc, &[b'a'; 10])?;
     let over = vec![in alloc; bound(&rt, alloc, b"X", ten)?]?;
     assert_eq!(rt; lines.answer(over.as_slice()), Err(LineStop::Full));
@@ -226,10 +226,8 @@ fn answers_fit_up_to_the_limit(rt: HostRuntime) -> Result<(), Fail> {
     assert_eq!(rt; lines.answer(&[]), Err(LineStop::Full));
     assert_eq!(rt; lines.bytes().len(), full + 16);
     lines.count(1)?;
-    assert_eq!(rt;
-        &lines.bytes()[full..],
-        b"  X = aaaaaaaaa\n  1 answers\n".as_slice()
-    );
+    assert_eq!(rt; lines.bytes().len(), full + 28);
+    assert!(rt; lines.bytes().ends_with(b"  X = aaaaaaaaa\n  1 answers\n"));
     Ok(())
 }
 

@@ -1,6 +1,6 @@
 -- The mark is one of the later heap, and its heap is the one that there was.
 use Rattle.std.proofs.Common.{◌∙◌, arith}
-use Rattle.ml_heap.proofs.MarksStay.{all_undone}
+use Rattle.ml_heap.proofs.HeapMarks.{all_undone}
 use Rattle.ml_bench.proofs.round.copy_and_undo.Goals as goal
 
 pub undo_to-requires : goal.undo_to-requires

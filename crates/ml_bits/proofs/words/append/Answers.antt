@@ -1,5 +1,5 @@
 use Rattle.std.proofs.Common.{length}
-use Rattle.ml_bits.proofs.Packed as packed
+use Rattle.ml_bits.proofs.PackedBits as packed
 use Rattle.ml_bits.proofs.words.append.Goals as goal
 
 pub fill_last-requires-else-spare-eq0-clause-value : goal.fill_last-requires-else-spare-eq0-clause-value
@@ -13,4 +13,5 @@ returns-then-spare-eq0-clause-held c =
 pub returns-else-spare-eq0-clause-held : goal.returns-else-spare-eq0-clause-held
 returns-else-spare-eq0-clause-held c =
     let spare = c.spare_bits-spare.ensures.left (length c.args.words.now.items) c.requires.packed.enough c.requires.packed.no_more in
-    packed.append_across _ _ _ _ _ _ _ c.requires.packed c.if-count-spare.false spare c.fill_last-else-spare-eq0.ensures.len c.fill_last-else-spare-eq0.ensures.held c.start_word-else-spare-eq0.ensures.held
+    packed.append_across _ _ _ _ _ _ _ c.requires.packed c.if-count-spare.false spare c.fill_last-else-spare-eq0.ensures.len
+    c.fill_last-else-spare-eq0.ensures.held c.start_word-else-spare-eq0.ensures.held

@@ -1,6 +1,6 @@
 use Rattle.std.proofs.Common.{◌≡◌, suc, ◌-◌, ◌*◌, ◌<◌, length, arith, get_or}
 use Rattle.std.proofs.lemmas.List.{get_or_read}
-use Rattle.ml_bits.proofs.Packed as packed
+use Rattle.ml_bits.proofs.PackedBits as packed
 use Rattle.ml_bits.proofs.words.clear_rest.Goals as goal
 
 pub returns-then-spare-eq0-clause-held : goal.returns-then-spare-eq0-clause-held

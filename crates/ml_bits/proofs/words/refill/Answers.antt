@@ -1,6 +1,6 @@
 use Rattle.std.proofs.Common.{◌≡◌, ◌≤◌, ◌*◌, length, take, arith, ◌∙◌, ap, subst}
-use Rattle.ml_bits.specs.Packing.{packed_bits, Holds}
-use Rattle.ml_bits.proofs.Packed as packed
+use Rattle.ml_bits.specs.inside.Packing.{packed_bits, Holds}
+use Rattle.ml_bits.proofs.PackedBits as packed
 use Rattle.ml_bits.proofs.words.refill.Goals as goal
 
 pub returns-clause-held : goal.returns-clause-held

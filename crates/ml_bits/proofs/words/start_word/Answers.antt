@@ -1,4 +1,4 @@
-use Rattle.ml_bits.proofs.Packed as packed
+use Rattle.ml_bits.proofs.PackedBits as packed
 use Rattle.ml_bits.proofs.words.start_word.Goals as goal
 
 pub returns-clause-held : goal.returns-clause-held

@@ -1,5 +1,5 @@
-use Rattle.ml_file.proofs.Counted.{as_many, settled_many}
-use Rattle.ml_file.proofs.Differing.{items_differ}
+use Rattle.ml_file.proofs.ItemCounts.{as_many, settled_many}
+use Rattle.ml_file.proofs.DifferingItems.{items_differ}
 use Rattle.ml_file.proofs.laws.items_stand_once.Goals as goal
 
 pub returns : goal.returns

@@ -1,4 +1,4 @@
-use Rattle.ml_file.proofs.Meeting.{met_key_fits}
+use Rattle.ml_file.proofs.ItemHits.{met_key_fits}
 use Rattle.ml_file.proofs.StoredHeads.{head_from_of}
 use Rattle.ml_file.proofs.laws.what_is_met_fits.Goals as goal
 

@@ -2,7 +2,7 @@
 use Rattle.std.proofs.Common.{◌≡◌, ◌<◌, List, length}
 use Rattle.ml_term.specs.Tree.{Tree}
 use Rattle.ml_heap.specs.Changes.{tree_in}
-use Rattle.ml_heap.specs.Layout.{cell_in, rank_of, FitAll}
+use Rattle.ml_heap.specs.inside.Layout.{cell_in, rank_of, FitAll}
 use Rattle.ml_heap.proofs.links.end_of.Given as goal
 
 abbrev pub invariant-loop-end : goal.invariant-loop-end

@@ -1,5 +1,5 @@
 -- The laws of marks.
-use Rattle.ml_heap.proofs.MarksStay.{as_many, earlier_mark, marks_stay, marks_go_on}
+use Rattle.ml_heap.proofs.HeapMarks.{as_many, earlier_mark, marks_stay, marks_go_on}
 use Rattle.ml_heap.proofs.marks.marks_keep_their_heaps.Goals as goal
 
 pub returns : goal.returns

@@ -1,6 +1,6 @@
 use Rattle.std.proofs.Common.{◌∙◌}
 use Rattle.ml_bits.proofs.WordBits.{length-bits_of}
-use Rattle.ml_key.proofs.Extended.{within_room, bits_same}
+use Rattle.ml_key.proofs.GrowingLists.{within_room, bits_same}
 use Rattle.ml_key.proofs.extend.append.Goals as goal
 
 pub returns : goal.returns

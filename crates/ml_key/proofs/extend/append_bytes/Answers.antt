@@ -1,6 +1,6 @@
 use Rattle.std.proofs.Common.{◌∙◌, ◌*◌, length}
 use Rattle.ml_bits.proofs.Bytes.{length-byte_bits}
-use Rattle.ml_key.proofs.Extended.{within_room, byte_bits_same}
+use Rattle.ml_key.proofs.GrowingLists.{within_room, byte_bits_same}
 use Rattle.ml_key.proofs.extend.append_bytes.Goals as goal
 
 pub returns : goal.returns

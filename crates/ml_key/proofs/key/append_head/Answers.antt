@@ -1,15 +1,16 @@
 use Rattle.std.proofs.Common.{ap, ◌∙◌}
 use Rattle.ml_term.specs.Codes.{code}
-use Rattle.ml_term.specs.Keys.{argument, interleaved}
+use Rattle.ml_term.specs.Keys.{argument, interleave}
 use Rattle.ml_term.specs.Tree.{Trees}
 use Rattle.std.proofs.Common.{map}
-use Rattle.ml_key.specs.Extension.{extended}
+use Rattle.ml_key.specs.inside.Extension.{extend_list}
 use Rattle.ml_key.specs.ItemKeys.{head_bits}
-use Rattle.ml_key.specs.PatternCodes.{word_bits}
+use Rattle.ml_key.specs.inside.PatternCodes.{word_bits}
 use Rattle.ml_key.proofs.key.append_head.Goals as goal
 
 pub returns : goal.returns
 unfolding head_bits word_bits
 returns c =
     c.append_in_turn.ensures
-    ∙ ap (λ cs. extended c.args.list.now (interleaved 64 cs)) (c.codes_of-codes.ensures ∙ ap (λ (ts : Trees). map code (map (λ k. argument k ts) c.args.keys.now)) c.arguments_of.ensures.same)
+    ∙ ap (λ cs. extend_list c.args.list.now (interleave 64 cs))
+    (c.codes_of-codes.ensures ∙ ap (λ (ts : Trees). map code (map (λ k. argument k ts) c.args.keys.now)) c.arguments_of.ensures.same)

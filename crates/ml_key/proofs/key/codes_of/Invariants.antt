@@ -3,7 +3,7 @@ use Rattle.ml_term.specs.Codes.{code}
 use Rattle.ml_term.specs.Keys.{argument}
 use Rattle.ml_term.specs.Seen.{all_seen}
 use Rattle.ml_term.specs.Tree.{trees_of}
-use Rattle.ml_key.specs.PatternCodes.{word_bits}
+use Rattle.ml_key.specs.inside.PatternCodes.{word_bits}
 use Rattle.ml_key.proofs.key.codes_of.Given as goal
 
 abbrev pub invariant-loop-place : goal.invariant-loop-place

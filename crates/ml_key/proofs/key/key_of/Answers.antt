@@ -1,7 +1,7 @@
 use Rattle.std.proofs.Common.{ap, ◌∙◌, ◌≡◌, ◌+◌, ◌*◌, ◌≤◌, Bool, List, ◌++◌, length, arith}
 use Rattle.ml_term.specs.Seen.{seen}
 use Rattle.ml_key.specs.ItemKeys.{head_bits, item_key, item_tail}
-use Rattle.ml_key.proofs.Extended.{filled_in_two, room_for_second}
+use Rattle.ml_key.proofs.GrowingLists.{filled_in_two, room_for_second}
 use Rattle.ml_key.proofs.KeyParts.{whole_key, length-head_bits, has_arguments}
 use Rattle.ml_key.proofs.key.key_of.Goals as goal
 
@@ -33,6 +33,7 @@ returns c =
     ap (λ ks. head_bits ks head ++ tail) c.as_slice-keys.ensures
     ∙ ap (λ h. head_bits c.args.decl.now.keys h ++ tail) c.item_head-head.ensures.same
     ∙ whole_key kind c.args.decl.now.keys t c.args.number in
-    filled_in_two (head_bits keys head) tail (item_key kind c.args.decl.now.keys t c.args.number) c.empty-key.result c.make_room.new.self c.append_head.new.list c.append_tail.new.list
+    filled_in_two (head_bits keys head) tail (item_key kind c.args.decl.now.keys t c.args.number) c.empty-key.result c.make_room.new.self c.append_head.new.list
+    c.append_tail.new.list
     (64 * length keys + c.tail_len.result)
     c.empty-key.ensures c.in_ok-make_room.ensures.list c.in_ok-make_room.ensures.ok wanted c.append_head.ensures c.append_tail.ensures whole

@@ -2,7 +2,7 @@ use Rattle.std.proofs.Common.{ap, sym, ◌*◌, length, ◌∙◌}
 use Rattle.ml_term.specs.CanonicalBytes.{bytes_of}
 use Rattle.ml_term.specs.Seen.{seen}
 use Rattle.ml_key.specs.ItemKeys.{item_tail}
-use Rattle.ml_key.proofs.Extended.{length-byte_bits}
+use Rattle.ml_key.proofs.GrowingLists.{length-byte_bits}
 use Rattle.ml_key.proofs.key.tail_len.Goals as goal
 
 pub returns-in-Relation-clause-same : goal.returns-in-Relation-clause-same

@@ -1,4 +1,4 @@
-use Rattle.ml_key.proofs.Beginnings.{same_beginnings}
+use Rattle.ml_key.proofs.BitBeginnings.{same_beginnings}
 use Rattle.ml_key.proofs.key_laws.beginnings_are_the_same.Goals as goal
 
 pub returns : goal.returns

@@ -1,4 +1,4 @@
-use Rattle.ml_key.proofs.Beginnings.{tuples_differ, clauses_differ}
+use Rattle.ml_key.proofs.BitBeginnings.{tuples_differ, clauses_differ}
 use Rattle.ml_key.proofs.key_laws.items_have_keys_of_their_own.Goals as goal
 
 pub returns-clause-tuples : goal.returns-clause-tuples

@@ -1,4 +1,4 @@
-use Rattle.ml_key.proofs.Beginnings.{owner_holds, shorter_holds}
+use Rattle.ml_key.proofs.BitBeginnings.{owner_holds, shorter_holds}
 use Rattle.ml_key.proofs.key_laws.prefixes_that_may_hold.Goals as goal
 
 pub returns-clause-owner : goal.returns-clause-owner

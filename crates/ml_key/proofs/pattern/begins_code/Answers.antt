@@ -1,4 +1,4 @@
-use Rattle.ml_key.specs.PatternCodes.{begins_code}
+use Rattle.ml_key.specs.inside.PatternCodes.{begins_code}
 use Rattle.ml_key.proofs.pattern.begins_code.Goals as goal
 
 pub returns : goal.returns

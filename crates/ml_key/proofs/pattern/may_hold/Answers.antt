@@ -1,6 +1,6 @@
 use Rattle.std.proofs.Common.{arith, ap, sym, ◌∙◌, ◌≤◌, length, None}
 use Rattle.ml_term.specs.Patterns.{may_hold}
-use Rattle.ml_key.proofs.Asked.{place_holds, place_holds_not, all_places_hold}
+use Rattle.ml_key.proofs.PrefixPlaces.{place_holds, place_holds_not, all_places_hold}
 use Rattle.ml_key.proofs.pattern.may_hold.Goals as goal
 
 pub returns-then-not-place_may_hold : goal.returns-then-not-place_may_hold

@@ -1,4 +1,4 @@
-use Rattle.ml_key.proofs.Asked.{HoldsSoFar}
+use Rattle.ml_key.proofs.PrefixPlaces.{HoldsSoFar}
 use Rattle.ml_key.proofs.pattern.may_hold.Given as goal
 
 abbrev pub invariant-loop-place : goal.invariant-loop-place

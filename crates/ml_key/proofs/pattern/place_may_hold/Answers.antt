@@ -1,6 +1,6 @@
 use Rattle.std.proofs.Common.{ap, sym, ◌∙◌, ◌≡◌, ◌||◌, true, false}
-use Rattle.ml_key.specs.PatternCodes.{asked_bits, begins_code, place_may_hold}
-use Rattle.ml_key.proofs.Asked.{asked_place, free_place}
+use Rattle.ml_key.specs.inside.PatternCodes.{asked_bits, begins_code, place_may_hold}
+use Rattle.ml_key.proofs.PrefixPlaces.{asked_place, free_place}
 use Rattle.ml_key.proofs.pattern.place_may_hold.Goals as goal
 
 pub returns-in-None : goal.returns-in-None

@@ -1,4 +1,4 @@
-use Rattle.ml_key.proofs.Asked.{BeginsSoFar}
+use Rattle.ml_key.proofs.PrefixPlaces.{BeginsSoFar}
 use Rattle.ml_key.proofs.pattern.rows_begin.Given as goal
 
 abbrev pub invariant-loop-row : goal.invariant-loop-row

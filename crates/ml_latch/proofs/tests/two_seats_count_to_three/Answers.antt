@@ -1,7 +1,8 @@
 use Rattle.std.proofs.Common.{rules, arith, ◌≡◌, ◌<◌, ◌≤◌, ℕ, zero, suc, List, [], ◌∷◌, Contains, refl, sym, subst}
 use Rattle.ml_latch.proofs.tests.two_seats_count_to_three.Goals as goal
 
-both : {N : Type 0} (kept : List (ℕ × List N)) (given : ℕ) (a b : List N) → kept ≡ (1, a) ∷ (2, b) ∷ [] → given ≡ 2 → (n : ℕ) → 0 < n → n ≤ given → (xs : List N) × Contains kept (n, xs)
+both : {N : Type 0} (kept : List (ℕ × List N)) (given : ℕ) (a b : List N) → kept ≡ (1, a) ∷ (2, b) ∷ [] → given ≡ 2 → (n : ℕ) → 0 < n → n ≤ given
+    → (xs : List N) × Contains kept (n, xs)
 both kept given a b is two zero some le = absurd (omega arith)
 both {N} kept given a b is two (suc zero) some le = (a, subst (λ (l : List (ℕ × List N)). Contains l (1, a)) (sym is) (0, omega arith, refl))
 both {N} kept given a b is two (suc (suc zero)) some le = (b, subst (λ (l : List (ℕ × List N)). Contains l (2, b)) (sym is) (1, omega arith, refl))

@@ -1,8 +1,8 @@
 use Rattle.std.proofs.Common.{rules, ◌≡◌, ◌∷◌, [], ap, ◌∙◌, sym, subst, refl, Some, None, IsSome}
 use mathlib.Core.Option.{none}
 use Rattle.atomic_table.specs.Table.{step, rest}
-use Rattle.ml_latch.proofs.Turning.{looks}
-use Rattle.ml_latch.proofs.Lists.{first_content}
+use Rattle.ml_latch.proofs.TurnSteps.{looks}
+use Rattle.ml_latch.proofs.ListLemmas.{first_content}
 use Rattle.ml_latch.proofs.turn.await_turn.Goals as goal
 
 pub load-requires : goal.load-requires
@@ -11,7 +11,8 @@ load-requires g c =
     let w = c.requires.waits in (
       search rules,
       search rules,
-      looks g.V.Kept.past g.V.Kept.own g.V.Kept.base c.args.table.now.key.value _ _ _ (ap (λ m. m.0.taken) same ∙ w.taken) (step c.args.table.now.table_id.slots 1 0 0 none)
+      looks g.V.Kept.past g.V.Kept.own g.V.Kept.base c.args.table.now.key.value _ _ _ (ap (λ m. m.0.taken) same ∙ w.taken)
+          (step c.args.table.now.table_id.slots 1 0 0 none)
           (w.number, ap (λ m. m.0.ticket) same ∙ w.ticket) (ap (λ m. m.0.start) same ∙ w.begun),
     )
 

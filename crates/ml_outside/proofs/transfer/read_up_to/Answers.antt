@@ -1,5 +1,5 @@
 use Rattle.std.proofs.Common.{◌∙◌, rules}
-use Rattle.ml_outside.proofs.Passing.{whole_front}
+use Rattle.ml_outside.proofs.BytesPassed.{whole_front}
 use Rattle.ml_outside.proofs.transfer.read_up_to.Goals as goal
 
 pub returns-clause-content : goal.returns-clause-content

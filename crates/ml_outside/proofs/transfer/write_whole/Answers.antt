@@ -1,4 +1,4 @@
-use Rattle.ml_outside.proofs.Passing.{passed_more}
+use Rattle.ml_outside.proofs.BytesPassed.{passed_more}
 use Rattle.ml_outside.proofs.transfer.write_whole.Goals as goal
 
 pub loop-preserved : goal.loop-preserved

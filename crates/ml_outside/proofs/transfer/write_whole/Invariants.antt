@@ -1,4 +1,4 @@
-use Rattle.ml_outside.proofs.Passing.{Passed}
+use Rattle.ml_outside.proofs.BytesPassed.{Passed}
 use Rattle.ml_outside.proofs.transfer.write_whole.Given as goal
 
 -- what is gone from `rest` was taken

@@ -1,4 +1,4 @@
-use Rattle.ml_reader.proofs.RulesReadings.{one_rules, one_rules_fault, rules_without_fault, rules_or_fault}
+use Rattle.ml_reader.proofs.RuleReading.OneRulesReading.{one_rules, one_rules_fault, rules_without_fault, rules_or_fault}
 use Rattle.ml_reader.proofs.rules_laws.a_text_is_one_program_or_has_one_fault.Goals as goal
 
 pub returns-clause-rules : goal.returns-clause-rules

@@ -1,5 +1,5 @@
-use Rattle.ml_reader.proofs.OneReading.{rules_or_wrong, rules_go_wrong_once}
-use Rattle.ml_reader.proofs.RulesOrWrong.{rules_unless_wrong}
+use Rattle.ml_reader.proofs.RuleReading.OneProgram.{rules_or_wrong, rules_go_wrong_once}
+use Rattle.ml_reader.proofs.RuleReading.RulesOrFault.{rules_unless_wrong}
 use Rattle.ml_reader.proofs.rules_laws.clauses_are_rules_or_go_wrong.Goals as goal
 
 pub returns-clause-either : goal.returns-clause-either

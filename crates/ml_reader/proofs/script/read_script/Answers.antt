@@ -4,8 +4,8 @@ use Rattle.std.proofs.lemmas.Result.{err_from_is_err_and}
 use Rattle.ml_reader.specs.Faults.{HasFirstFault}
 use Rattle.ml_reader.specs.declared.fault.ReadFault.{ReadFault}
 use Rattle.ml_reader.specs.Seen.{read_seen}
-use Rattle.ml_reader.proofs.ScriptAnswers.{refused_fault, refused_complete, refused_first, read_script, read_fault, read_complete, read_first}
-use Rattle.ml_reader.proofs.ScriptSizes.{few_clauses}
+use Rattle.ml_reader.proofs.ScriptReading.ReadScriptAnswers.{refused_fault, refused_complete, refused_first, read_script, read_fault, read_complete, read_first}
+use Rattle.ml_reader.proofs.ScriptReading.ScriptSizes.{few_clauses}
 use Rattle.ml_reader.proofs.script.read_script.Goals as goal
 
 pub returns-in_err-clauses-clause-fault : goal.returns-in_err-clauses-clause-fault
@@ -30,16 +30,20 @@ script_of-requires-clause-few c =
     omega (arith, few, length-map c.in_ok-clauses.clauses.items read_seen, c.requires)
 
 pub returns-clause-read : goal.returns-clause-read
-returns-clause-read c = read_script c.args.bytes.now (map read_seen c.in_ok-clauses.clauses.items) c.in_ok-clauses.ensures.read c.script_of.result c.script_of.ensures
+returns-clause-read c =
+    read_script c.args.bytes.now (map read_seen c.in_ok-clauses.clauses.items) c.in_ok-clauses.ensures.read c.script_of.result c.script_of.ensures
 
 pub returns-clause-fault : goal.returns-clause-fault
-returns-clause-fault c = read_fault c.args.bytes.now (map read_seen c.in_ok-clauses.clauses.items) c.in_ok-clauses.ensures.read c.script_of.result c.script_of.ensures
+returns-clause-fault c =
+    read_fault c.args.bytes.now (map read_seen c.in_ok-clauses.clauses.items) c.in_ok-clauses.ensures.read c.script_of.result c.script_of.ensures
 
 pub returns-clause-complete : goal.returns-clause-complete
 returns-clause-complete c =
-    read_complete c.args.bytes.now (map read_seen c.in_ok-clauses.clauses.items) c.in_ok-clauses.ensures.read c.in_ok-clauses.ensures.complete c.script_of.result c.script_of.ensures
+    read_complete c.args.bytes.now (map read_seen c.in_ok-clauses.clauses.items) c.in_ok-clauses.ensures.read c.in_ok-clauses.ensures.complete
+    c.script_of.result c.script_of.ensures
 
 pub returns-clause-first : goal.returns-clause-first
 returns-clause-first c =
     let none : (f : ReadFault) → HasFirstFault c.args.bytes.now f → ⊥ = λ f h. elim (c.in_ok-clauses.ensures.first f h) [ inl e ↦ cc | inr e ↦ cc ] in
-    read_first c.args.bytes.now (map read_seen c.in_ok-clauses.clauses.items) c.in_ok-clauses.ensures.read c.in_ok-clauses.ensures.complete none c.script_of.result c.script_of.ensures
+    read_first c.args.bytes.now (map read_seen c.in_ok-clauses.clauses.items) c.in_ok-clauses.ensures.read c.in_ok-clauses.ensures.complete none
+    c.script_of.result c.script_of.ensures

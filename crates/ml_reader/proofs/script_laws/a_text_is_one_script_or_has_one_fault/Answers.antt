@@ -1,5 +1,5 @@
 use Rattle.ml_reader.proofs.script_laws.a_text_is_one_script_or_has_one_fault.Goals as goal
-use Rattle.ml_reader.proofs.ScriptReadings.{one_script, one_fault, no_fault, script_or_fault}
+use Rattle.ml_reader.proofs.ScriptReading.OneScriptReading.{one_script, one_fault, no_fault, script_or_fault}
 
 pub returns-clause-script : goal.returns-clause-script
 returns-clause-script c = one_script

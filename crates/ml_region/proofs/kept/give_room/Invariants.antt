@@ -1,6 +1,6 @@
 use Rattle.std.proofs.Common.{◌≡◌, ℕ, ◌≤◌}
 use Rattle.std.specs.List.{AllWithin}
-use Rattle.ml_region.specs.Kept.{kept_entries, HaveRoom}
+use Rattle.ml_region.specs.inside.Kept.{kept_entries, HaveRoom}
 use Rattle.ml_region.specs.declared.kept.Kept.{Kept}
 use Rattle.ml_region.proofs.kept.give_room.Given as goal
 

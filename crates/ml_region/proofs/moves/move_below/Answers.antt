@@ -1,21 +1,23 @@
 use Rattle.std.proofs.Common.{◌≡◌, ℕ, ◌<◌, ◌≤◌, Bool, true, false, List, [], length, get_or, sym, ap, ◌∙◌, arith}
 use Rattle.std.proofs.lemmas.Bool.{false_from_ne_true}
 use Rattle.std.proofs.lemmas.List.{get_or_default}
-use Rattle.ml_key.proofs.Beginnings.{begun, begins_so}
+use Rattle.ml_key.proofs.BitBeginnings.{begun, begins_so}
 use Rattle.ml_term.specs.Patterns.{begins}
-use Rattle.ml_region.specs.Stored.{page_at}
+use Rattle.ml_region.specs.inside.Stored.{page_at}
 use Rattle.ml_region.specs.declared.item.Item.{Item}
-use Rattle.ml_region.proofs.Moving.{next_room, next_place, moving_past, moving_over}
+use Rattle.ml_region.proofs.MovedItems.{next_room, next_place, moving_past, moving_over}
 use Rattle.ml_region.proofs.moves.move_below.Goals as goal
 use Rattle.ml_region.proofs.moves.move_below.Goals.{then-is_prefix_of, else-is_prefix_of}
 
 pub move_to_end-requires-clause-few : goal.move_to_end-requires-clause-few
 move_to_end-requires-clause-few c =
-    next_room c.args.pages.now c.args.from c.args.to c.args.prefix.now.bits c.each.pages c.each.j c.each.left c.requires.to c.each.invariant c.each-test.true c.requires.few
+    next_room c.args.pages.now c.args.from c.args.to c.args.prefix.now.bits c.each.pages c.each.j c.each.left c.requires.to c.each.invariant c.each-test.true
+    c.requires.few
 
 pub overflow_add-j : goal.overflow_add-j
 overflow_add-j c =
-    let small : c.each.j ≤ 31 = next_place c.args.pages.now c.args.from c.args.to c.args.prefix.now.bits c.each.pages c.each.j c.each.left c.each.invariant c.requires.few in
+    let small : c.each.j ≤ 31 = next_place c.args.pages.now c.args.from c.args.to c.args.prefix.now.bits c.each.pages c.each.j c.each.left c.each.invariant
+    c.requires.few in
     omega arith
 
 pub each-preserved : goal.each-preserved
@@ -33,7 +35,8 @@ each-preserved c =
       | then-is_prefix_of w ↦
           let t : begins prefix x.key.bits ≡ true = begins_so prefix x.key.bits (c.is_prefix_of.ensures.0 w.if-is_prefix_of.true) in
           rw (w.pages-is, w.j-is)
-          (moving_over pages from c.args.to prefix now w.move_to_end.new.pages c.each.j c.each.left x c.requires.from c.requires.to c.requires.apart c.each.invariant c.each-test.true is t
+          (moving_over pages from c.args.to prefix now w.move_to_end.new.pages c.each.j c.each.left x c.requires.from c.requires.to c.requires.apart
+          c.each.invariant c.each-test.true is t
           w.move_to_end.ensures)
       | else-is_prefix_of w ↦
           let t : begins prefix x.key.bits ≡ false =

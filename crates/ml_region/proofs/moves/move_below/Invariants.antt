@@ -1,4 +1,4 @@
-use Rattle.ml_region.proofs.Moving.{Moving}
+use Rattle.ml_region.proofs.MovedItems.{Moving}
 use Rattle.ml_region.proofs.moves.move_below.Given as goal
 
 abbrev pub invariant-each : goal.invariant-each

@@ -1,17 +1,18 @@
 use Rattle.std.proofs.Common.{◌≡◌, ℕ, ◌<◌, List, [], ◌∷◌, ◌++◌, length, get_or, set, sym, ap, ◌∙◌, subst, arith, length-append}
 use Rattle.std.specs.List.{insert}
 use Rattle.std.proofs.lemmas.List.{get_or_default, get_or-set_same, get_or-set_other}
-use Rattle.ml_region.specs.Moves.{IsPoured}
+use Rattle.ml_region.specs.inside.Moves.{IsPoured}
 use Rattle.ml_region.specs.Regions.{keys_of}
-use Rattle.ml_region.specs.Stored.{page_at, IsFirstFrom}
+use Rattle.ml_region.specs.inside.Stored.{page_at, IsFirstFrom}
 use Rattle.ml_region.specs.declared.item.Item.{Item}
-use Rattle.ml_region.proofs.Moving.{set_own}
-use Rattle.ml_region.proofs.Pouring.{Pouring, pouring_begins, pouring_more, pouring_ends, pour_room, nothing}
+use Rattle.ml_region.proofs.MovedItems.{set_own}
+use Rattle.ml_region.proofs.PouredItems.{Pouring, pouring_begins, pouring_more, pouring_ends, pour_room, nothing}
 use Rattle.ml_region.proofs.moves.pour.Goals as goal
 
 pub each-init : goal.each-init
 each-init c =
-    pouring_begins c.args.pages.now c.args.from c.args.to c.requires.from c.requires.to c.requires.apart c.requires.rising c.requires.from_rising c.requires.different
+    pouring_begins c.args.pages.now c.args.from c.args.to c.requires.from c.requires.to c.requires.apart c.requires.rising c.requires.from_rising
+    c.requires.different
 
 pub put-requires-clause-few : goal.put-requires-clause-few
 put-requires-clause-few c =
@@ -28,7 +29,8 @@ put-requires-clause-few c =
     let other : (d : List Item) → get_or (set now from rest) to d ≡ page_at now to = λ d.
     get_or-set_other now from to rest d (λ e. c.requires.apart (sym e)) ∙ get_or_default now to d [] to_in in
     let room : length (page_at now to) < 31 =
-    pour_room pages from to now c.each.invariant c.requires.from c.requires.to c.requires.apart c.requires.few (omega (arith, ap length popped, length-append rest (x ∷ []))) in
+    pour_room pages from to now c.each.invariant c.requires.from c.requires.to c.requires.apart c.requires.few
+    (omega (arith, ap length popped, length-append rest (x ∷ []))) in
     subst (λ xs. length xs < 31) (sym (other c.index-pages-to-in-Some.result)) room
 
 pub each-preserved : goal.each-preserved

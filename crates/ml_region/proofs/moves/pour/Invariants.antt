@@ -1,6 +1,6 @@
 use Rattle.std.proofs.Common.{length}
-use Rattle.ml_region.specs.Stored.{page_at}
-use Rattle.ml_region.proofs.Pouring.{Pouring}
+use Rattle.ml_region.specs.inside.Stored.{page_at}
+use Rattle.ml_region.proofs.PouredItems.{Pouring}
 use Rattle.ml_region.proofs.moves.pour.Given as goal
 
 abbrev pub invariant-each : goal.invariant-each

@@ -3,8 +3,8 @@ use Rattle.std.specs.Prelude.{Contains}
 use Rattle.std.proofs.lemmas.List.{get_or_read}
 use Rattle.ml_region.specs.Prefixes.{bits_at}
 use Rattle.ml_region.specs.Listing.{prefixes_of}
-use Rattle.ml_region.proofs.Listing.{listing_rooted}
-use Rattle.ml_region.proofs.Owners.{last_is}
+use Rattle.ml_region.proofs.ListingChanges.{listing_rooted}
+use Rattle.ml_region.proofs.OwnerSearch.{last_is}
 use Rattle.ml_region.proofs.places.prefix_among.Goals as goal
 
 pub last_up_to-place-requires-clause-rooted : goal.last_up_to-place-requires-clause-rooted

@@ -3,7 +3,7 @@ use Rattle.std.specs.declared.cmp.Ordering.TheVariants.{Greater}
 use Rattle.ml_term.specs.Keys.{key_cmp}
 use Rattle.ml_region.specs.Prefixes.{bits_at}
 use Rattle.ml_region.proofs.KeyOrder.{greater_from_test, not_greater_from_test}
-use Rattle.ml_region.proofs.Owners.{halving_up, halving_down, last_between}
+use Rattle.ml_region.proofs.OwnerSearch.{halving_up, halving_down, last_between}
 use Rattle.ml_region.proofs.searches.last_up_to.Goals as goal
 
 pub halves-preserved-then-is_gt : goal.halves-preserved-then-is_gt
@@ -30,5 +30,6 @@ halves-preserved g c =
 
 pub returns : goal.returns
 returns g c =
-    last_between (g.P.Prefixes.prefixes c.args.prefixes.now) (take c.args.n c.args.key.now.bits) c.halves.low c.halves.high c.requires.rooted.rising (omega arith)
+    last_between (g.P.Prefixes.prefixes c.args.prefixes.now) (take c.args.n c.args.key.now.bits) c.halves.low c.halves.high c.requires.rooted.rising
+    (omega arith)
     c.halves.invariant

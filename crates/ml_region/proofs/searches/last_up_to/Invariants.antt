@@ -1,5 +1,5 @@
 use Rattle.std.proofs.Common.{◌-◌, take}
-use Rattle.ml_region.proofs.Owners.{Halving}
+use Rattle.ml_region.proofs.OwnerSearch.{Halving}
 use Rattle.ml_region.proofs.searches.last_up_to.Given as goal
 
 abbrev pub invariant-halves : goal.invariant-halves

@@ -5,7 +5,7 @@ use Rattle.ml_bits.specs.BitList.{Begins}
 use Rattle.ml_region.specs.Prefixes.{bits_at}
 use Rattle.ml_region.specs.Regions.{keys_at, items_at}
 use Rattle.ml_region.specs.declared.item.Item.{Item}
-use Rattle.ml_region.proofs.Found.{key_of_item}
+use Rattle.ml_region.proofs.FoundItems.{key_of_item}
 use Rattle.ml_region.proofs.tests.is_apart.Goals as goal
 
 pub loop-j-preserved : goal.loop-j-preserved
@@ -26,12 +26,20 @@ loop-i-preserved c i j h l =
       | inr after ↦
           let here : i ≡ c.loop-i.i = omega arith in
           let l' : j < length (keys_at c.args.regions.now.regions c.loop-i.i) = subst (λ k. j < length (keys_at c.args.regions.now.regions k)) here l in
-          let within : j < c.loop-j.j = omega (arith, c.count-j-end.ensures, l', length-map (items_at c.args.regions.now.regions c.loop-i.i) (λ (x : Item). x.key.bits)) in
-          subst (λ k. (Begins (bits_at (keys_at c.args.regions.now.regions k) j) c.args.key.now.bits → ⊥) × (Begins c.args.key.now.bits (bits_at (keys_at c.args.regions.now.regions k) j) → ⊥))
+          let within : j < c.loop-j.j = omega (
+            arith,
+            c.count-j-end.ensures,
+            l',
+            length-map (items_at c.args.regions.now.regions c.loop-i.i) (λ (x : Item). x.key.bits),
+          ) in
+          subst (λ k. (Begins (bits_at (keys_at c.args.regions.now.regions k) j) c.args.key.now.bits → ⊥)
+          × (Begins c.args.key.now.bits (bits_at (keys_at c.args.regions.now.regions k) j) → ⊥))
           (sym here) (c.loop-j.invariant j within)
     ]
 
 pub returns : goal.returns
 returns c t i other h there =
-    let same : bits_at (keys_at c.args.regions.now.regions i) there.0 ≡ other = get_or_default (keys_at c.args.regions.now.regions i) there.0 [] other there.1 ∙ there.2 in
-    subst (λ k. (Begins k c.args.key.now.bits → ⊥) × (Begins c.args.key.now.bits k → ⊥)) same (c.loop-i.invariant i there.0 (omega (arith, c.len-i-end.ensures.length)) there.1)
+    let same : bits_at (keys_at c.args.regions.now.regions i) there.0 ≡ other =
+    get_or_default (keys_at c.args.regions.now.regions i) there.0 [] other there.1 ∙ there.2 in
+    subst (λ k. (Begins k c.args.key.now.bits → ⊥) × (Begins c.args.key.now.bits k → ⊥)) same
+    (c.loop-i.invariant i there.0 (omega (arith, c.len-i-end.ensures.length)) there.1)

@@ -1,4 +1,4 @@
-use Rattle.ml_region.proofs.OneItem.{found_key_is_there}
+use Rattle.ml_region.proofs.ItemPlaces.{found_key_is_there}
 use Rattle.ml_region.proofs.tests.marked.Goals as goal
 
 pub mark-requires : goal.mark-requires

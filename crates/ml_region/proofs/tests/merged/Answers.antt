@@ -1,6 +1,6 @@
 use Rattle.std.proofs.Common.{◌≡◌, List, length, ap, arith}
 use Rattle.ml_region.specs.Regions.{Region, items_at, region_at, region_prefixes}
-use Rattle.ml_region.proofs.Owners.{one_parent}
+use Rattle.ml_region.proofs.OwnerSearch.{one_parent}
 use Rattle.ml_region.proofs.tests.merged.Goals as goal
 
 pub merge-requires-clause-few : goal.merge-requires-clause-few

@@ -1,5 +1,5 @@
 use Rattle.std.proofs.Common.{sym, arith}
-use Rattle.ml_region.proofs.Listing.{prefixes_length}
+use Rattle.ml_region.proofs.ListingChanges.{prefixes_length}
 use Rattle.ml_region.proofs.tests.prefix_of_owner.Goals as goal
 
 pub prefix_of-requires : goal.prefix_of-requires

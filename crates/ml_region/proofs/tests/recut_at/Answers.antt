@@ -3,8 +3,8 @@ use Rattle.ml_bits.specs.BitList.{BitList}
 use Rattle.ml_region.specs.Prefixes.{bits_at}
 use Rattle.ml_region.specs.Regions.{Region, items_at, keys_at, region_at, region_prefixes}
 use Rattle.ml_region.specs.declared.item.Item.{Item}
-use Rattle.ml_region.proofs.Found.{key_of_item}
-use Rattle.ml_region.proofs.Owners.{one_parent}
+use Rattle.ml_region.proofs.FoundItems.{key_of_item}
+use Rattle.ml_region.proofs.OwnerSearch.{one_parent}
 use Rattle.ml_region.proofs.tests.recut_at.Goals as goal
 
 pub recut-requires-clause-few : goal.recut-requires-clause-few

@@ -15,8 +15,11 @@ returns-then-is_over_at c =
     let i = c.loop-name.name-index in
     let e = c.loop-name-item.result in
     let t = seen c.value.result.now in
-    let test : (is_shown e && is_too_large t) ≡ true = ap (λ f. is_shown (f, 0) && is_too_large t) (sym c.as_slice.ensures.same) ∙ sym c.is_over_at.ensures ∙ c.if-is_over_at.true in
-    sym (over_further vs es i e t c.loop-name-test.true c.loop-name-item.is c.value.ensures ∙ ap (λ b. b || list_any is_too_large (shown_values vs (drop (i + 1) es))) test)
+    let test : (is_shown e && is_too_large t) ≡ true =
+    ap (λ f. is_shown (f, 0) && is_too_large t) (sym c.as_slice.ensures.same) ∙ sym c.is_over_at.ensures ∙ c.if-is_over_at.true in
+    sym
+    (over_further vs es i e t c.loop-name-test.true c.loop-name-item.is c.value.ensures
+    ∙ ap (λ b. b || list_any is_too_large (shown_values vs (drop (i + 1) es))) test)
     ∙ c.loop-name.invariant
 
 pub loop-name-preserved : goal.loop-name-preserved
@@ -26,6 +29,9 @@ loop-name-preserved c =
     let i = c.loop-name.name-index in
     let e = c.loop-name-item.result in
     let t = seen c.value.result.now in
-    let test : (is_shown e && is_too_large t) ≡ false = ap (λ f. is_shown (f, 0) && is_too_large t) (sym c.as_slice.ensures.same) ∙ sym c.is_over_at.ensures ∙ c.if-is_over_at.false in
-    sym (over_further vs es i e t c.loop-name-test.true c.loop-name-item.is c.value.ensures ∙ ap (λ b. b || list_any is_too_large (shown_values vs (drop (i + 1) es))) test)
+    let test : (is_shown e && is_too_large t) ≡ false =
+    ap (λ f. is_shown (f, 0) && is_too_large t) (sym c.as_slice.ensures.same) ∙ sym c.is_over_at.ensures ∙ c.if-is_over_at.false in
+    sym
+    (over_further vs es i e t c.loop-name-test.true c.loop-name-item.is c.value.ensures
+    ∙ ap (λ b. b || list_any is_too_large (shown_values vs (drop (i + 1) es))) test)
     ∙ c.loop-name.invariant

@@ -7,4 +7,5 @@ use Rattle.ml_relation.proofs.answer.is_over.Given as goal
 
 abbrev pub invariant-loop-name : goal.invariant-loop-name
 invariant-loop-name l =
-    list_any is_too_large (shown_values (values_seen l.values) (drop l.name-index l.names)) ≡ list_any is_too_large (shown_values (values_seen l.values) l.names)
+    list_any is_too_large (shown_values (values_seen l.values) (drop l.name-index l.names))
+    ≡ list_any is_too_large (shown_values (values_seen l.values) l.names)

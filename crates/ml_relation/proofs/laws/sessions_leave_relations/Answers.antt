@@ -8,4 +8,5 @@ pub returns-clause-session : goal.returns-clause-session
 returns-clause-session c = λ program. session_leaves program (lists_of c.args.relations.now) (lists_ground c.args.relations.now.lists.items)
 
 pub returns-clause-history : goal.returns-clause-history
-returns-clause-history c = λ program scripts order. entries_alike program (lists_of c.args.relations.now) (lists_ground c.args.relations.now.lists.items) scripts order 1
+returns-clause-history c =
+    λ program scripts order. entries_alike program (lists_of c.args.relations.now) (lists_ground c.args.relations.now.lists.items) scripts order 1

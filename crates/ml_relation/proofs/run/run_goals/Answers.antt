@@ -12,10 +12,11 @@ loop-goal-preserved c =
     let lists = lists_of c.args.relations.now in
     record {
       played =
-          one_further c.args.decls.now lists c.args.goals.now l.goal-index c.goal-item.result (trees c.at-tuples.result.now) l.j l.left l.lines.lines l.lines.answer_bytes
-          (told_by c.play.new.lines (Goes c.in-Goes.rest)) _ c.loop-goal-test.true c.goal-item.is
+          one_further c.args.decls.now lists c.args.goals.now l.goal-index c.goal-item.result
+          (trees c.at-tuples.result.now) l.j l.left l.lines.lines l.lines.answer_bytes
+          (told_by c.run_goal.new.lines (Goes c.in-Goes.rest)) _ c.loop-goal-test.true c.goal-item.is
           (c.at-tuples.ensures ∙ ap (terms_at lists) c.place_called.ensures)
-          (ap (told_by c.play.new.lines) (sym c.in-Goes.is) ∙ c.in_ok-rest.ensures.whole) l.invariant.played;
+          (ap (told_by c.run_goal.new.lines) (sym c.in-Goes.is) ∙ c.in_ok-rest.ensures.whole) l.invariant.played;
       counted = omega (arith, l.invariant.counted);
       finished = c.in_ok-rest.ensures.finished;
     }

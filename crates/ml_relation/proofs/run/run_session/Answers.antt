@@ -16,5 +16,6 @@ returns c =
     let script = c.args.script.now in
     let goals = goals_seen c.as_slice.result.now in
     IfOk-weaker c.run_goals.result (λ ran. Plays (played ds (lists_of relations) goals 1 script.budget [] 0) ran.lines ran.ending) _
-    (λ ran p program e. runs program ds (lists_of relations) (script_seen script) goals ran.lines ran.ending (lists_ground relations.lists.items) e (ap goals_seen c.as_slice.ensures) c.requires p)
+    (λ ran p program e. runs program ds (lists_of relations) (script_seen script) goals ran.lines ran.ending (lists_ground relations.lists.items) e
+    (ap goals_seen c.as_slice.ensures) c.requires p)
     c.run_goals.ensures

@@ -2,7 +2,7 @@ use Rattle.std.proofs.Common.{◌≡◌, ◌-◌, ℕ, List, [], ◌∷◌, suc,
 use Rattle.std.specs.List.{All}
 use Rattle.std.proofs.lemmas.Result.{IfOk-weaker}
 use Rattle.ml_search.specs.GoalSeen.{goal_seen}
-use Rattle.ml_term.proofs.Columns.{and_first, and_second}
+use Rattle.ml_term.proofs.KeyColumns.{and_first, and_second}
 use Rattle.ml_term.specs.Seen.{seen}
 use Rattle.ml_relation.specs.Answering.{answers}
 use Rattle.ml_relation.specs.Courses.{told_by}
@@ -31,8 +31,10 @@ returns-clause-told c =
     let met = c.meets.ensures.yes c.if-not-meets.false in
     let known = all_known (seen g.term) u vs g.names met (and_second _ _ (and_first _ _ g.well_formed)) in
     let one : suc (c.args.left - 1) ≡ c.args.left = omega (arith, c.if-left-eq0.false) in
-    let all : one_told vs c.as_slice.result.now (c.args.left - 1) before bytes ≡ lines_told (goal_seen g) (answers (goal_seen g) (u ∷ [])) c.args.left before bytes =
+    let all : one_told vs c.as_slice.result.now (c.args.left - 1) before bytes
+    ≡ lines_told (goal_seen g) (answers (goal_seen g) (u ∷ [])) c.args.left before bytes =
     ap (λ es. one_told vs es (c.args.left - 1) before bytes) c.as_slice.ensures
     ∙ answered (goal_seen g) u met.unified vs (c.args.left - 1) before bytes met.unifies known
     ∙ ap (λ n. lines_told (goal_seen g) (answers (goal_seen g) (u ∷ [])) n before bytes) one in
-    IfOk-weaker c.tell_answer.result (λ course. told_by c.tell_answer.new.lines course ≡ one_told vs c.as_slice.result.now (c.args.left - 1) before bytes) _ (λ course e. e ∙ all) c.tell_answer.ensures.told
+    IfOk-weaker c.tell_answer.result (λ course. told_by c.tell_answer.new.lines course ≡ one_told vs c.as_slice.result.now (c.args.left - 1) before bytes) _
+    (λ course e. e ∙ all) c.tell_answer.ensures.told

@@ -1,5 +1,5 @@
 use Rattle.ml_round_trip.proofs.text_laws.a_term_is_read_from_its_text.Goals as goal
-use Rattle.ml_round_trip.proofs.ReadAgain.{cut_whole, read_again, read_within_limits, read_only_so, one_depth_of_text}
+use Rattle.ml_round_trip.proofs.TextsReadBack.{cut_whole, read_again, read_within_limits, read_only_so, one_depth_of_text}
 
 pub returns-clause-tokens : goal.returns-clause-tokens
 returns-clause-tokens c = cut_whole

@@ -1,5 +1,5 @@
 use Rattle.ml_round_trip.proofs.text_laws.texts_tell_terms_apart.Goals as goal
-use Rattle.ml_round_trip.proofs.ReadAgain.{texts_apart}
+use Rattle.ml_round_trip.proofs.TextsReadBack.{texts_apart}
 
 pub returns : goal.returns
 returns c = texts_apart

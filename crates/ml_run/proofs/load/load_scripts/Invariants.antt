@@ -2,9 +2,9 @@ use Rattle.std.proofs.Common.{◌≡◌, ◌≤◌, true, IfSome, length, take}
 use Rattle.std.specs.List.{list_all}
 use Rattle.ml_search.specs.ProgramSeen.{program_seen}
 use Rattle.ml_relation.specs.Calls.{is_of_relations}
-use Rattle.ml_run.specs.Seen.{scripts_seen}
+use Rattle.ml_run.specs.inside.Seen.{scripts_seen}
 use Rattle.ml_run.specs.Words.{texts}
-use Rattle.ml_run.proofs.Scripts.{EachComes}
+use Rattle.ml_run.proofs.ScriptsInTurn.{EachComes}
 use Rattle.ml_run.proofs.load.load_scripts.Given as goal
 
 -- the scripts so far are those of the first names

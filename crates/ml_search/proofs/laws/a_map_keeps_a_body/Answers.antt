@@ -1,5 +1,5 @@
-use Rattle.ml_search.proofs.Outlines.{keeps_outline}
-use Rattle.ml_search.proofs.Sizes.{body_keeps_size}
+use Rattle.ml_search.proofs.BodyOutlines.{keeps_outline}
+use Rattle.ml_search.proofs.BranchSizes.{body_keeps_size}
 use Rattle.ml_search.proofs.laws.a_map_keeps_a_body.Goals as goal
 
 pub returns-clause-same : goal.returns-clause-same

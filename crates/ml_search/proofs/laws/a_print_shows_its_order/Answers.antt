@@ -1,4 +1,4 @@
-use Rattle.ml_search.proofs.Orders.{print_shows_order, beginning_shows}
+use Rattle.ml_search.proofs.PrintedOrders.{print_shows_order, beginning_shows}
 use Rattle.ml_search.proofs.laws.a_print_shows_its_order.Goals as goal
 
 pub returns-clause-order : goal.returns-clause-order

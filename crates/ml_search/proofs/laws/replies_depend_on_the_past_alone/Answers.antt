@@ -1,4 +1,4 @@
-use Rattle.ml_search.proofs.Beginnings.{in_parts, store_in_parts, beginning}
+use Rattle.ml_search.proofs.LogBeginnings.{in_parts, store_in_parts, beginning}
 use Rattle.ml_search.proofs.laws.replies_depend_on_the_past_alone.Goals as goal
 
 pub returns-clause-parts : goal.returns-clause-parts

@@ -1,5 +1,5 @@
-use Rattle.ml_search.proofs.Falls.{turns_fall}
-use Rattle.ml_search.proofs.Turns.{search_steps, only_search}
+use Rattle.ml_search.proofs.SizesFall.{turns_fall}
+use Rattle.ml_search.proofs.SearchTurns.{search_steps, only_search}
 use Rattle.ml_search.proofs.laws.the_search_ends.Goals as goal
 
 pub returns-clause-falls : goal.returns-clause-falls

@@ -1,10 +1,9 @@
-use Rattle.std.proofs.Common.{◌≡◌, ◌≢◌, ℕ, length, ap, sym, ◌∙◌, arith}
+use Rattle.std.proofs.Common.{◌≢◌, length, ap, sym, ◌∙◌, arith}
 use Rattle.std.proofs.lemmas.List.{length-map}
 use Rattle.ml_term.specs.Seen.{seen, all_seen}
-use Rattle.ml_term.specs.Tree.{compound, trees_of}
-use Rattle.ml_term.proofs.Views.{seen_compound}
+use Rattle.ml_term.proofs.CompoundTrees.{seen_compound}
 use Rattle.ml_search.specs.Bodies.{is_callable}
-use Rattle.ml_search.proofs.Callable.{other_count}
+use Rattle.ml_search.proofs.CallableCompounds.{other_count}
 use Rattle.ml_search.proofs.reserved.+is_callable.Goals as goal
 
 pub returns-in_default : goal.returns-in_default

@@ -1,4 +1,4 @@
-use Rattle.ml_search.proofs.Computed.{arithmetic_rows}
+use Rattle.ml_search.proofs.RowsComputed.{arithmetic_rows}
 use Rattle.ml_search.proofs.rows.arithmetic_rows.Goals as goal
 
 pub returns : goal.returns

@@ -1,4 +1,4 @@
-use Rattle.ml_search.proofs.Computed.{control_rows}
+use Rattle.ml_search.proofs.RowsComputed.{control_rows}
 use Rattle.ml_search.proofs.rows.control_rows.Goals as goal
 
 pub returns : goal.returns

@@ -1,4 +1,4 @@
-use Rattle.ml_search.proofs.Computed.{ending_rows}
+use Rattle.ml_search.proofs.RowsComputed.{ending_rows}
 use Rattle.ml_search.proofs.rows.ending_rows.Goals as goal
 
 pub returns : goal.returns

@@ -1,4 +1,4 @@
-use Rattle.ml_search.proofs.Computed.{replay_rows}
+use Rattle.ml_search.proofs.RowsComputed.{replay_rows}
 use Rattle.ml_search.proofs.rows.replay_rows.Goals as goal
 
 pub returns : goal.returns

@@ -1,4 +1,4 @@
-use Rattle.ml_search.proofs.Computed.{stored_rows}
+use Rattle.ml_search.proofs.RowsComputed.{stored_rows}
 use Rattle.ml_search.proofs.rows.stored_rows.Goals as goal
 
 pub returns : goal.returns

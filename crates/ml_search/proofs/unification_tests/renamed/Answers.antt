@@ -1,6 +1,6 @@
 use Rattle.std.proofs.Common.{arith}
 use Rattle.ml_term.specs.Seen.{seen}
-use Rattle.ml_search.proofs.Widths.{width_within}
+use Rattle.ml_search.proofs.Unifying.VariableCounts.{width_within}
 use Rattle.ml_search.proofs.unification_tests.renamed.Goals as goal
 
 pub rename-requires-clause-room : goal.rename-requires-clause-room

@@ -12,6 +12,6 @@ returns-clause-few g c few =
     let prefix : List Bool = take c.item_for-place.result.bits (bits_at (keys_at old c.args.i) c.item_for-place.result.key) in
     on_ok_weaker c.cut.result
     (λ (cut : IsCut old c.args.i prefix c.cut.new.self.regions).
-    split_for_few old c.args.i c.args.key.now.bits c.cut.new.self.regions c.len-regions.ensures.well_placed c.requires.region
+    split_for_few old c.args.i c.args.key.now.bits c.cut.new.self.regions c.len-well_placed.ensures.well_placed c.requires.region
     (record { prefix = prefix; split = c.item_for-place.ensures.split; fair = c.item_for-place.ensures.fair; cut = cut }) few)
     c.cut.ensures.ok

@@ -1,4 +1,4 @@
-use Rattle.ml_split.proofs.Walking.{Goes, rule_ends, one_split, is_fair}
+use Rattle.ml_split.proofs.SplitWalk.{Goes, rule_ends, one_split, is_fair}
 use Rattle.ml_split.proofs.laws.splits_are_fair.Goals as goal
 
 pub returns-clause-ends : goal.returns-clause-ends

@@ -1,8 +1,9 @@
 use Rattle.std.proofs.Common.{◌<◌, ◌+◌, ℕ, Bool, List, [], length, get_or, take, sym, subst, arith}
 use Rattle.ml_bits.specs.BitList.{IsCommonLength}
-use Rattle.ml_split.proofs.Parting.{IsFork, fork_nearer, fork_further, fork_aside}
+use Rattle.ml_split.proofs.PartingKeys.{IsFork, fork_nearer, fork_further, fork_aside}
 use Rattle.ml_split.proofs.place.fork_of.Goals as goal
-use Rattle.ml_split.proofs.place.fork_of.Goals.{then-bits-common+then-common-fork, else-bits-common, else-bits-common-via-then-bits-common+else-common-fork, else-bits-common-via-else-bits-common}
+use Rattle.ml_split.proofs.place.fork_of.Goals.{then-bits-common+then-common-fork, else-bits-common, else-bits-common-via-then-bits-common+else-common-fork}
+use Rattle.ml_split.proofs.place.fork_of.Goals.{else-bits-common-via-else-bits-common}
 
 pub loop-i-preserved : goal.loop-i-preserved
 loop-i-preserved g c =

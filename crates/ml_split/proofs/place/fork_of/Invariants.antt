@@ -1,5 +1,5 @@
 use Rattle.std.proofs.Common.{take}
-use Rattle.ml_split.proofs.Parting.{IsFork}
+use Rattle.ml_split.proofs.PartingKeys.{IsFork}
 use Rattle.ml_split.proofs.place.fork_of.Given as goal
 
 abbrev pub invariant-loop-i : goal.invariant-loop-i

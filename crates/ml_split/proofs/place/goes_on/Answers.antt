@@ -1,6 +1,6 @@
 use Rattle.std.proofs.Common.{◌<◌, ◌≤◌, ◌∙◌, length, arith, sym}
 use Rattle.std.proofs.lemmas.Bool.{le-ltb}
-use Rattle.ml_split.proofs.Parting.{other_front, key_ended, bit_decides}
+use Rattle.ml_split.proofs.PartingKeys.{other_front, key_ended, bit_decides}
 use Rattle.ml_split.proofs.place.goes_on.Goals as goal
 
 pub returns-then-common_len-fork : goal.returns-then-common_len-fork

@@ -1,6 +1,6 @@
 use Rattle.std.proofs.Common.{arith, take, length-take}
 use Rattle.ml_split.specs.Splitting.{half}
-use Rattle.ml_split.proofs.Walking.{count_within}
+use Rattle.ml_split.proofs.SplitWalk.{count_within}
 use Rattle.ml_split.proofs.place.half_of.Goals as goal
 
 pub overflow_add-half : goal.overflow_add-half

@@ -1,6 +1,6 @@
 use Rattle.std.proofs.Common.{◌-◌, ◌+◌}
-use Rattle.ml_split.proofs.Counting.{total_bits}
-use Rattle.ml_split.proofs.Parting.{IsOnTheWay}
+use Rattle.ml_split.proofs.KeyCounts.{total_bits}
+use Rattle.ml_split.proofs.PartingKeys.{IsOnTheWay}
 use Rattle.ml_split.proofs.place.split_place.Given as goal
 
 abbrev pub invariant-on : goal.invariant-on

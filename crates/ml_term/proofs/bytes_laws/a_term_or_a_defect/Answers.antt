@@ -1,4 +1,4 @@
-use Rattle.ml_term.proofs.Standing.{no_defect, one_term}
+use Rattle.ml_term.proofs.StandingTerms.{no_defect, one_term}
 use Rattle.ml_term.proofs.bytes_laws.a_term_or_a_defect.Goals as goal
 
 pub returns-clause-apart : goal.returns-clause-apart

@@ -8,8 +8,8 @@ use Rattle.ml_term.specs.Tree.{integer, compound, trees_of, arity}
 use Rattle.ml_term.specs.Valid.{is_in_range, is_valid}
 use Rattle.ml_term.proofs.CanonicalOrder.{trees_compare, compounds_compare, integers_compare}
 use Rattle.ml_term.proofs.Orderings.{decided_later, decided_here, decides_alone}
-use Rattle.ml_term.proofs.Sizes.{arity_of_trees}
-use Rattle.ml_term.proofs.Views.{seen_integer, seen_compound}
+use Rattle.ml_term.proofs.TermSizes.{arity_of_trees}
+use Rattle.ml_term.proofs.CompoundTrees.{seen_integer, seen_compound}
 use Rattle.ml_term.proofs.canonical.+canonical.Goals as goal
 
 pub all_canonical_cmp-returns-in-Equal : goal.all_canonical_cmp-returns-in-Equal
@@ -19,8 +19,10 @@ all_canonical_cmp-returns-in-Equal t c =
     let ts = trees_of (all_seen c.in-Some-Some.ts.now) in
     let us = trees_of (all_seen c.in-Some-Some.us.now) in
     let rest = slice_cmp nat_cmp (bytes_of_all ts) (bytes_of_all us) in
-    let tied : slice_cmp nat_cmp (bytes_of (seen c.in-Some-Some.t.now)) (bytes_of (seen c.in-Some-Some.u.now)) ≡ Equal = sym c.canonical_cmp.ensures ∙ c.in-Equal.is in
-    rw (e, f) (c.all_canonical_cmp.ensures ∙ sym (trees_compare (seen c.in-Some-Some.t.now) (seen c.in-Some-Some.u.now) ts us ∙ ap (λ o. ordering_then o rest) tied))
+    let tied : slice_cmp nat_cmp (bytes_of (seen c.in-Some-Some.t.now)) (bytes_of (seen c.in-Some-Some.u.now)) ≡ Equal =
+    sym c.canonical_cmp.ensures ∙ c.in-Equal.is in
+    rw (e, f) (c.all_canonical_cmp.ensures ∙ sym (trees_compare (seen c.in-Some-Some.t.now) (seen c.in-Some-Some.u.now) ts us
+    ∙ ap (λ o. ordering_then o rest) tied))
 
 pub all_canonical_cmp-returns-in_default-canonical_cmp :
     goal.all_canonical_cmp-returns-in_default-canonical_cmp

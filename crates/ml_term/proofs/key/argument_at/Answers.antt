@@ -1,7 +1,7 @@
 use Rattle.std.proofs.Common.{arith, ap, sym, ◌∙◌, ◌≡◌, ◌-◌, ◌<◌, length, get_or}
 use Rattle.ml_term.specs.Seen.{seen}
 use Rattle.ml_term.specs.Valid.{is_valid}
-use Rattle.ml_term.proofs.Arguments.{argument_is, argument_is_valid}
+use Rattle.ml_term.proofs.NumberedArguments.{argument_is, argument_is_valid}
 use Rattle.ml_term.proofs.key.argument_at.Goals as goal
 
 pub returns-clause-same : goal.returns-clause-same

@@ -4,8 +4,8 @@ use Rattle.std.specs.Ordering.{nat_cmp, ordering_then}
 use Rattle.ml_term.specs.Tree.{compound, trees_of, arity}
 use Rattle.ml_term.specs.Order.{trees_cmp}
 use Rattle.ml_term.specs.Seen.{seen, all_seen}
-use Rattle.ml_term.proofs.Sizes.{arity_of_trees}
-use Rattle.ml_term.proofs.Views.{seen_compound}
+use Rattle.ml_term.proofs.TermSizes.{arity_of_trees}
+use Rattle.ml_term.proofs.CompoundTrees.{seen_compound}
 use Rattle.ml_term.proofs.Orderings.{decided_later, decided_here}
 use Rattle.ml_term.proofs.order.+compare.Goals as goal
 

@@ -1,5 +1,5 @@
 use Rattle.ml_term.specs.Unify.{value_of}
-use Rattle.ml_term.proofs.Ground.{ground_stays, ground_renamed}
+use Rattle.ml_term.proofs.GroundTerms.{ground_stays, ground_renamed}
 use Rattle.ml_term.proofs.pattern_laws.ground_terms_stay.Goals as goal
 
 pub returns-clause-substituted : goal.returns-clause-substituted

@@ -1,5 +1,5 @@
-use Rattle.ml_term.proofs.Fitting.{length_of_code, length_of_key_head, code_found}
-use Rattle.ml_term.proofs.Places.{bit_of_key}
+use Rattle.ml_term.proofs.FittingKeys.{length_of_code, length_of_key_head, code_found}
+use Rattle.ml_term.proofs.BitPlaces.{bit_of_key}
 use Rattle.ml_term.proofs.pattern_laws.keys_have_codes.Goals as goal
 
 pub returns-clause-length : goal.returns-clause-length

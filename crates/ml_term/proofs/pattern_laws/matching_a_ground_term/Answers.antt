@@ -1,7 +1,7 @@
 use Rattle.std.proofs.Common.{refl}
 use Rattle.ml_term.specs.Tree.{has, variables}
-use Rattle.ml_term.proofs.MostGeneral.{not_in_false}
-use Rattle.ml_term.proofs.Ground.{matched_exactly, gives_the_tuple, gives_one, gives_ground, leaves_others, value_stands}
+use Rattle.ml_term.proofs.MostGeneralUnifiers.{not_in_false}
+use Rattle.ml_term.proofs.GroundTerms.{matched_exactly, gives_the_tuple, gives_one, gives_ground, leaves_others, value_stands}
 use Rattle.ml_term.proofs.pattern_laws.matching_a_ground_term.Goals as goal
 
 pub returns-clause-exactly : goal.returns-clause-exactly

@@ -1,4 +1,4 @@
-use Rattle.ml_term.proofs.Ground.{takes_tuple, takes_twice, takes_no_two}
+use Rattle.ml_term.proofs.GroundTerms.{takes_tuple, takes_twice, takes_no_two}
 use Rattle.ml_term.proofs.pattern_laws.matching_a_tuple.Goals as goal
 
 pub returns-clause-different : goal.returns-clause-different

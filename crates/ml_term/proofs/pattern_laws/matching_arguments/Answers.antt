@@ -1,5 +1,5 @@
-use Rattle.ml_term.proofs.EqualSides.{same}
-use Rattle.ml_term.proofs.Ground.{arguments_solved, takes_ground, unequal_ground}
+use Rattle.ml_term.proofs.EqualEquations.{same}
+use Rattle.ml_term.proofs.GroundTerms.{arguments_solved, takes_ground, unequal_ground}
 use Rattle.ml_term.proofs.pattern_laws.matching_arguments.Goals as goal
 
 pub returns-clause-compounds : goal.returns-clause-compounds

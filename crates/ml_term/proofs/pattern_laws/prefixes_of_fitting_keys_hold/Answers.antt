@@ -1,5 +1,5 @@
-use Rattle.ml_term.proofs.Fitting.{prefix_holds}
-use Rattle.ml_term.proofs.Completing.{holds_exactly}
+use Rattle.ml_term.proofs.FittingKeys.{prefix_holds}
+use Rattle.ml_term.proofs.CompletedPrefixes.{holds_exactly}
 use Rattle.ml_term.proofs.pattern_laws.prefixes_of_fitting_keys_hold.Goals as goal
 
 pub returns-clause-each : goal.returns-clause-each

@@ -1,5 +1,5 @@
 use Rattle.std.proofs.Common.{◌≡◌, ◌+◌, ◌*◌, length}
-use Rattle.ml_term.specs.Reading.{AreRead}
+use Rattle.ml_term.specs.inside.Reading.{AreRead}
 use Rattle.ml_term.specs.Seen.{all_seen}
 use Rattle.ml_term.specs.Tree.{trees_of}
 use Rattle.ml_term.proofs.reading.+reading.Given as goal

@@ -1,6 +1,6 @@
 use Rattle.std.proofs.Common.{arith, take}
 use Rattle.std.proofs.lemmas.List.{length-take}
-use Rattle.ml_term.proofs.NamesRead.{is_a_name}
+use Rattle.ml_term.proofs.NameBytes.{is_a_name}
 use Rattle.ml_term.proofs.reading.name_behind.Goals as goal
 
 pub new-requires : goal.new-requires

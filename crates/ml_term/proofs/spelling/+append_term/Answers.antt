@@ -3,8 +3,8 @@ use Rattle.std.proofs.lemmas.Result.{on_ok_weaker}
 use Rattle.ml_term.specs.CanonicalBytes.{bytes_of, bytes_of_all, name_bytes}
 use Rattle.ml_term.specs.Seen.{all_seen, seen}
 use Rattle.ml_term.specs.Tree.{compound, arity, trees_of}
-use Rattle.ml_term.proofs.Sizes.{arity_of_trees, nodes_above_zero}
-use Rattle.ml_term.proofs.Views.{seen_compound}
+use Rattle.ml_term.proofs.TermSizes.{arity_of_trees, nodes_above_zero}
+use Rattle.ml_term.proofs.CompoundTrees.{seen_compound}
 use Rattle.ml_term.proofs.spelling.+append_term.Goals as goal
 
 -- a compound's bytes in two parts
@@ -25,7 +25,8 @@ append_term-returns-in_ok-append_named-in-Cmp t c =
     ∙ ap (λ us. (3 ∷ arity ts ∷ name_bytes c.in-Cmp.f) ++ bytes_of_all us) same
     ∙ sym (ap bytes_of is) in
     on_ok_weaker c.append_terms.result
-    (λ e. e ∙ in_parts c.args.out.now.items front c.append_named-in-Cmp.new.out.items (bytes_of (seen c.args.t.now)) (bytes_of_all args) c.in_ok-append_named-in-Cmp.ensures both)
+    (λ e. e ∙ in_parts c.args.out.now.items front c.append_named-in-Cmp.new.out.items (bytes_of (seen c.args.t.now))
+    (bytes_of_all args) c.in_ok-append_named-in-Cmp.ensures both)
     c.append_terms.ensures
 
 pub append_terms-append_terms-requires : goal.append_terms-append_terms-requires

@@ -1,4 +1,4 @@
-use Rattle.ml_term.proofs.Numbering.{renamed_counts, renamed_again, numbered_stays, renamed_width, renamed_nodes}
+use Rattle.ml_term.proofs.VariableNumbering.{renamed_counts, renamed_again, numbered_stays, renamed_width, renamed_nodes}
 use Rattle.ml_term.proofs.unification_laws.renaming_numbers_anew.Goals as goal
 
 pub returns-clause-counts : goal.returns-clause-counts

@@ -1,4 +1,4 @@
-use Rattle.ml_term.proofs.OneUnifier.{unified_exactly, terms_unified_exactly}
+use Rattle.ml_term.proofs.UnifierIsOne.{unified_exactly, terms_unified_exactly}
 use Rattle.ml_term.proofs.unification_laws.unification_finds_each_unifier.Goals as goal
 
 pub returns-clause-equations : goal.returns-clause-equations

@@ -1,6 +1,6 @@
-use Rattle.ml_term.proofs.Solved.{solved_none_left, solved_step}
+use Rattle.ml_term.proofs.UnificationRules.{solved_none_left, solved_step}
 use Rattle.ml_term.proofs.UnificationEnds.{next_falls}
-use Rattle.ml_term.proofs.EqualSides.{same}
+use Rattle.ml_term.proofs.EqualEquations.{same}
 use Rattle.ml_term.proofs.unification_laws.unification_goes_by_its_rules.Goals as goal
 
 pub returns-clause-nothing_left : goal.returns-clause-nothing_left

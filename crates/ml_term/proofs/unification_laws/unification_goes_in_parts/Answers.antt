@@ -1,4 +1,4 @@
-use Rattle.ml_term.proofs.Solved.{solved_from, mgu_in_parts, solved_in_parts}
+use Rattle.ml_term.proofs.UnificationRules.{solved_from, mgu_in_parts, solved_in_parts}
 use Rattle.ml_term.proofs.unification_laws.unification_goes_in_parts.Goals as goal
 
 pub returns-clause-from : goal.returns-clause-from

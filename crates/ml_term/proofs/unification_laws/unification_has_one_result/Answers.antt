@@ -1,5 +1,5 @@
 use Rattle.std.proofs.Common.{[], ◌∷◌}
-use Rattle.ml_term.proofs.OneUnifier.{both_found, one_map, swapped}
+use Rattle.ml_term.proofs.UnifierIsOne.{both_found, one_map, swapped}
 use Rattle.ml_term.proofs.unification_laws.unification_has_one_result.Goals as goal
 
 pub returns-clause-both : goal.returns-clause-both

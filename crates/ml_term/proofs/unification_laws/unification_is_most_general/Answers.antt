@@ -1,4 +1,4 @@
-use Rattle.ml_term.proofs.OneUnifier.{is_most_general, general_on_terms, idempotent}
+use Rattle.ml_term.proofs.UnifierIsOne.{is_most_general, general_on_terms, idempotent}
 use Rattle.ml_term.proofs.unification_laws.unification_is_most_general.Goals as goal
 
 pub returns-clause-unifies : goal.returns-clause-unifies

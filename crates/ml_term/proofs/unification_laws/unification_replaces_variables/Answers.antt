@@ -1,4 +1,4 @@
-use Rattle.ml_term.proofs.OneUnifier.{is_most_general, none_left_in_terms}
+use Rattle.ml_term.proofs.UnifierIsOne.{is_most_general, none_left_in_terms}
 use Rattle.ml_term.proofs.unification_laws.unification_replaces_variables.Goals as goal
 
 pub returns-clause-once : goal.returns-clause-once

@@ -1,4 +1,4 @@
-use Rattle.ml_term.proofs.Renaming.{renamed_range, instance_of_unified, unified_of_instance}
+use Rattle.ml_term.proofs.RenamedTerms.{renamed_range, instance_of_unified, unified_of_instance}
 use Rattle.ml_term.proofs.unification_laws.unification_with_a_renamed_term.Goals as goal
 
 pub returns-clause-range : goal.returns-clause-range

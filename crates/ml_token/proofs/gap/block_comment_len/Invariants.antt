@@ -1,5 +1,5 @@
 use Rattle.std.proofs.Common.{◌≡◌, ◌+◌, length, option_map}
-use Rattle.ml_token.specs.Gap.{block_comment_len}
+use Rattle.ml_token.specs.inside.Gap.{block_comment_len}
 use Rattle.ml_token.proofs.gap.block_comment_len.Given as goal
 
 abbrev pub invariant-loop-rest : goal.invariant-loop-rest

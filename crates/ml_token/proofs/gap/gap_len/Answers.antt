@@ -1,6 +1,6 @@
 use Rattle.std.proofs.Common.{◌≤◌, ◌≢◌, ◌∙◌, length, length-drop, arith}
-use Rattle.ml_token.specs.Gap.{piece_len}
-use Rattle.ml_token.proofs.Gaps.{gap_len-piece}
+use Rattle.ml_token.specs.inside.Gap.{piece_len}
+use Rattle.ml_token.proofs.GapLengths.{gap_len-piece}
 use Rattle.ml_token.proofs.gap.gap_len.Goals as goal
 
 pub loop-rest-preserved : goal.loop-rest-preserved

@@ -1,5 +1,5 @@
 use Rattle.std.proofs.Common.{◌≡◌, ◌+◌, length}
-use Rattle.ml_token.specs.Gap.{gap_len}
+use Rattle.ml_token.specs.inside.Gap.{gap_len}
 use Rattle.ml_token.proofs.gap.gap_len.Given as goal
 
 abbrev pub invariant-loop-rest : goal.invariant-loop-rest

@@ -1,5 +1,5 @@
 use Rattle.std.proofs.Common.{arith}
-use Rattle.ml_token.proofs.Digits.{value_behind-step}
+use Rattle.ml_token.proofs.DigitValues.{value_behind-step}
 use Rattle.ml_token.proofs.number.small_number.Goals as goal
 
 pub returns-then-next-from-clause-none : goal.returns-then-next-from-clause-none

@@ -1,9 +1,9 @@
 use Rattle.std.proofs.Common.{◌≡◌, ◌+◌, ◌≤◌, length, drop, length-drop, ap, sym, ◌∙◌, arith}
-use Rattle.ml_token.specs.Tokens.{first_token}
-use Rattle.ml_token.proofs.Complete.{token-only, fault-only}
-use Rattle.ml_token.proofs.Total.{token-found, fault-found}
-use Rattle.ml_token.proofs.Spelled.{found-spelled}
-use Rattle.ml_token.proofs.Fits.{Fits, fits-first_token, token-stands, fault-stands}
+use Rattle.ml_token.specs.inside.Tokens.{first_token}
+use Rattle.ml_token.proofs.ScannerComplete.{token-only, fault-only}
+use Rattle.ml_token.proofs.ScannerTotal.{token-found, fault-found}
+use Rattle.ml_token.proofs.SpelledNames.{found-spelled}
+use Rattle.ml_token.proofs.TokensInText.{Fits, fits-first_token, token-stands, fault-stands}
 use Rattle.ml_token.proofs.scan.next_token.Goals as goal
 
 exact : (c : goal.After-token_at) → c.token_at.result ≡ first_token c.args.bytes.now c.args.at
@@ -14,10 +14,12 @@ pub returns-clause-exact : goal.returns-clause-exact
 returns-clause-exact c = exact c
 
 pub returns-clause-token : goal.returns-clause-token
-returns-clause-token c = λ t. (λ is. token-found c.args.bytes.now c.args.at t (sym (exact c) ∙ is), λ has. exact c ∙ token-only c.args.bytes.now c.args.at t has)
+returns-clause-token c =
+    λ t. (λ is. token-found c.args.bytes.now c.args.at t (sym (exact c) ∙ is), λ has. exact c ∙ token-only c.args.bytes.now c.args.at t has)
 
 pub returns-clause-fault : goal.returns-clause-fault
-returns-clause-fault c = λ f. (λ is. fault-found c.args.bytes.now c.args.at f (sym (exact c) ∙ is), λ has. exact c ∙ fault-only c.args.bytes.now c.args.at f has)
+returns-clause-fault c =
+    λ f. (λ is. fault-found c.args.bytes.now c.args.at f (sym (exact c) ∙ is), λ has. exact c ∙ fault-only c.args.bytes.now c.args.at f has)
 
 -- the gap leaves no more than the text has
 within : (c : goal.After-token_at) → c.args.at + c.gap_len-gap.result ≤ length c.args.bytes.now

@@ -1,7 +1,7 @@
 use Rattle.std.proofs.Common.{[]}
 use Rattle.ml_term.specs.Seen.{seen}
 use Rattle.ml_term.specs.Text.{text_of}
-use Rattle.ml_writer.proofs.Cuts.{text_added, counted}
+use Rattle.ml_writer.proofs.LineCuts.{text_added, counted}
 use Rattle.ml_writer.proofs.lines.write_term.Goals as goal
 
 pub returns-clause-written : goal.returns-clause-written

@@ -10,4 +10,5 @@ last_digit n text h l = append_assoc text (decimal (n / 10)) ((48 + n % 10) ∷ 
 
 pub returns-clause-text : goal.returns-clause-text
 returns-clause-text t c =
-    IfOk-equal c.put-2.result _ _ _ c.put-2.ensures.text (ap (λ text. text ++ (48 + c.args.n % 10) ∷ []) c.in_ok-put_number.ensures.text ∙ last_digit c.args.n c.args.out.now.text c.if-n-lt10.false (omega arith))
+    IfOk-equal c.put-2.result _ _ _ c.put-2.ensures.text (ap (λ text. text ++ (48 + c.args.n % 10) ∷ []) c.in_ok-put_number.ensures.text
+    ∙ last_digit c.args.n c.args.out.now.text c.if-n-lt10.false (omega arith))

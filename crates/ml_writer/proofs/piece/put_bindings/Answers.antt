@@ -2,7 +2,7 @@
 use Rattle.std.proofs.Common.{◌≡◌, ◌∙◌, ◌∷◌, ◌++◌, ◌+◌, [], ap, sym, subst, take, rules}
 use Rattle.std.proofs.lemmas.Grind.{take_at_read}
 use Rattle.std.proofs.lemmas.List.{take_all}
-use Rattle.ml_writer.proofs.Bindings.{ArePut, text_of_bindings, first_put, next_put}
+use Rattle.ml_writer.proofs.BindingTexts.{ArePut, text_of_bindings, first_put, next_put}
 use Rattle.ml_writer.proofs.piece.put_bindings.Goals as goal
 
 pub loop-binding-init : goal.loop-binding-init
@@ -26,8 +26,10 @@ loop-binding-preserved c =
       put = record {
         first = so_far.first;
         are = so_far.are;
-        put = subst (λ bs. ArePut c.args.out.now.text c.put_binding-in-loop-binding.new.out.text c.args.met.now c.put_binding-in-loop-binding.new.met (so_far.first ∷ bs)) (sym more)
-            (next_put _ _ _ _ _ _ _ so_far.first (take i rest) c.binding-item.result so_far.put c.in_ok-put.ensures.text c.in_ok-put_binding-2.ensures.text c.in_ok-put_binding-2.ensures.met);
+        put = subst (λ bs. ArePut c.args.out.now.text c.put_binding-in-loop-binding.new.out.text c.args.met.now c.put_binding-in-loop-binding.new.met
+            (so_far.first ∷ bs)) (sym more)
+            (next_put _ _ _ _ _ _ _ so_far.first (take i rest) c.binding-item.result so_far.put c.in_ok-put.ensures.text c.in_ok-put_binding-2.ensures.text
+            c.in_ok-put_binding-2.ensures.met);
       };
     }
 

@@ -1,5 +1,5 @@
 use Rattle.std.proofs.Common.{◌≡◌}
-use Rattle.ml_writer.proofs.Bindings.{SomeArePut}
+use Rattle.ml_writer.proofs.BindingTexts.{SomeArePut}
 use Rattle.ml_writer.proofs.piece.put_bindings.Given as goal
 
 abbrev pub invariant-loop-binding : goal.invariant-loop-binding

@@ -8,8 +8,8 @@ use Rattle.ml_term.specs.Seen.{seen}
 use Rattle.ml_term.specs.Text.{text_of}
 use Rattle.ml_term.proofs.Decimals.{decimal_is_text}
 use Rattle.ml_search.specs.Session.{goal_line, count_line, error_line}
-use Rattle.ml_writer.specs.PieceText.{piece_text}
-use Rattle.ml_writer.proofs.Appended.{three_parts}
+use Rattle.ml_writer.specs.inside.PieceText.{piece_text}
+use Rattle.ml_writer.proofs.AppendedTexts.{three_parts}
 use Rattle.ml_writer.proofs.piece.put_piece.Goals as goal
 
 goal_line_is : (j k : ℕ) → k ≡ j → k < 2 ^ 64 → codes "goal " ++ (decimal k ++ 10 ∷ []) ≡ goal_line j
@@ -43,5 +43,6 @@ pub returns-in_ok-put_term-in-Error-clause-text : goal.returns-in_ok-put_term-in
 returns-in_ok-put_term-in-Error-clause-text c =
     on_ok_weaker c.put-in-Error-2.result
     (λ e. three_parts c.args.out.now.text _ _ _ (codes "  error ") _ _ c.in_ok-put-in-Error.ensures.text c.in_ok-put_term-in-Error.ensures.text e
-    ∙ ap (λ z. c.args.out.now.text ++ z) (error_line_is (seen c.in-Error.t.now) c.new-in-Error.result c.new-in-Error.ensures ∙ sym (ap piece_text c.in-Error.is)))
+    ∙ ap (λ z. c.args.out.now.text ++ z) (error_line_is (seen c.in-Error.t.now) c.new-in-Error.result c.new-in-Error.ensures
+    ∙ sym (ap piece_text c.in-Error.is)))
     c.put-in-Error-2.ensures.text

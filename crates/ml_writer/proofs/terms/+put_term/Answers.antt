@@ -10,10 +10,10 @@ use Rattle.ml_term.specs.Tree.{Tree, tree, no_trees, variable, compound, trees_o
 use Rattle.ml_term.specs.Seen.{seen, seen_step, all_seen}
 use Rattle.ml_term.specs.Text.{text_of, is_cell, comma}
 use Rattle.ml_term.proofs.Decimals.{signed_decimal_is_text}
-use Rattle.ml_term.proofs.Views.{seen_integer, seen_compound}
-use Rattle.ml_writer.specs.Parts.{arguments_text, elements_text, tail_text}
-use Rattle.ml_writer.proofs.Appended.{two_parts, three_parts}
-use Rattle.ml_writer.proofs.Texts.{one_argument, more_arguments, same_arguments, same_tail, met_both, list_text, list_tail}
+use Rattle.ml_term.proofs.CompoundTrees.{seen_integer, seen_compound}
+use Rattle.ml_writer.specs.inside.Parts.{arguments_text, elements_text, tail_text}
+use Rattle.ml_writer.proofs.AppendedTexts.{two_parts, three_parts}
+use Rattle.ml_writer.proofs.TermTexts.{one_argument, more_arguments, same_arguments, same_tail, met_both, list_text, list_tail}
 use Rattle.ml_writer.proofs.terms.+put_term.Goals as goal
 
 -- what std writes of an integer that a term holds
@@ -48,7 +48,8 @@ alone : (ts us : List Term) (u : Term) → ts ≡ u ∷ us → length us ≡ 0 �
 alone ts [] u is none = ap (λ vs. trees_of (all_seen vs)) is
 alone ts (v ∷ us) u is none = absurd (omega arith)
 
-arguments_of_one : (ts us : List Term) (u : Term) (met : List ℕ) → ts ≡ u ∷ us → length us ≡ 0 → arguments_text (trees_of (all_seen ts)) met ≡ text_of (seen u) met
+arguments_of_one : (ts us : List Term) (u : Term) (met : List ℕ) → ts ≡ u ∷ us → length us ≡ 0
+    → arguments_text (trees_of (all_seen ts)) met ≡ text_of (seen u) met
 arguments_of_one ts us u met is none = ap (λ vs. arguments_text vs met) (alone ts us u is none) ∙ one_argument (seen u) met
 
 arguments_of_more : (ts us : List Term) (u : Term) (met one : List ℕ) → ts ≡ u ∷ us → 1 ≤ length us → firsts one ≡ firsts (met ++ variables (seen u))
@@ -70,14 +71,16 @@ put_arguments-returns-clause-text t c =
     let is : c.args.args.now ≡ c.in-Some.first.now ∷ c.in-Some.rest.now = search rules in
     let some : 1 ≤ length c.in-Some.rest.now = grind (arith, nat_tests, c.if-is_empty.ensures) in
     on_ok_weaker c.put_arguments.result
-    (λ e. three_parts _ _ _ _ _ _ _ c.in_ok-put_term.ensures.text c.in_ok-put.ensures.text e ∙ ap (λ z. c.args.out.now.text ++ z) (sym (arguments_of_more _ _ _ c.args.met.now c.put_term.new.met is some c.in_ok-put_term.ensures.met)))
+    (λ e. three_parts _ _ _ _ _ _ _ c.in_ok-put_term.ensures.text c.in_ok-put.ensures.text e ∙ ap (λ z. c.args.out.now.text ++ z)
+    (sym (arguments_of_more _ _ _ c.args.met.now c.put_term.new.met is some c.in_ok-put_term.ensures.met)))
     c.put_arguments.ensures.text
 
 pub put_arguments-returns-clause-met : goal.put_arguments-returns-clause-met
 put_arguments-returns-clause-met t c =
     let is : c.args.args.now ≡ c.in-Some.first.now ∷ c.in-Some.rest.now = search rules in
     on_ok_weaker c.put_arguments.result
-    (λ e. met_both c.args.met.now c.put_term.new.met c.put_arguments.new.met _ _ c.in_ok-put_term.ensures.met e ∙ ap (λ vs. firsts (c.args.met.now ++ variables_of (trees_of (all_seen vs)))) (sym is))
+    (λ e. met_both c.args.met.now c.put_term.new.met c.put_arguments.new.met _ _ c.in_ok-put_term.ensures.met e
+    ∙ ap (λ vs. firsts (c.args.met.now ++ variables_of (trees_of (all_seen vs)))) (sym is))
     c.put_arguments.ensures.met
 
 -- the two parts of a cell
@@ -98,14 +101,16 @@ pub put_compound-returns-then-is_cell-clause-text : goal.put_compound-returns-th
 put_compound-returns-then-is_cell-clause-text t c =
     let cell : is_cell c.args.name.now (trees_of (all_seen c.args.args.now)) ≡ true = sym c.is_cell.ensures ∙ c.if-is_cell.true in
     on_ok_weaker c.put-then-is_cell.result
-    (λ e. three_parts _ _ _ _ _ _ _ c.in_ok-put.ensures.text c.in_ok-put_elements.ensures.text e ∙ ap (λ z. c.args.out.now.text ++ z) (sym (list_of_cell c.args.name.now c.args.args.now c.parts_of.result.0.now c.parts_of.result.1.now c.args.met.now c.parts_of.ensures cell)))
+    (λ e. three_parts _ _ _ _ _ _ _ c.in_ok-put.ensures.text c.in_ok-put_elements.ensures.text e ∙ ap (λ z. c.args.out.now.text ++ z)
+    (sym (list_of_cell c.args.name.now c.args.args.now c.parts_of.result.0.now c.parts_of.result.1.now c.args.met.now c.parts_of.ensures cell)))
     c.put-then-is_cell.ensures.text
 
 pub put_compound_tail-returns-then-is_cell-clause-text : goal.put_compound_tail-returns-then-is_cell-clause-text
 put_compound_tail-returns-then-is_cell-clause-text t c =
     let cell : is_cell c.args.name.now (trees_of (all_seen c.args.args.now)) ≡ true = sym c.is_cell.ensures ∙ c.if-is_cell.true in
     on_ok_weaker c.put_elements.result
-    (λ e. two_parts _ _ _ _ _ c.in_ok-put.ensures.text e ∙ ap (λ z. c.args.out.now.text ++ z) (sym (tail_of_cell c.args.name.now c.args.args.now c.parts_of.result.0.now c.parts_of.result.1.now c.args.met.now c.parts_of.ensures cell)))
+    (λ e. two_parts _ _ _ _ _ c.in_ok-put.ensures.text e ∙ ap (λ z. c.args.out.now.text ++ z)
+    (sym (tail_of_cell c.args.name.now c.args.args.now c.parts_of.result.0.now c.parts_of.result.1.now c.args.met.now c.parts_of.ensures cell)))
     c.put_elements.ensures.text
 
 pub put_elements-returns-clause-text : goal.put_elements-returns-clause-text
@@ -118,7 +123,8 @@ put_elements-returns-clause-text t c =
 
 pub put_elements-returns-clause-met : goal.put_elements-returns-clause-met
 put_elements-returns-clause-met t c =
-    on_ok_weaker c.put_tail.result (λ e. met_both c.args.met.now c.put_term.new.met c.put_tail.new.met _ _ c.in_ok-put_term.ensures.met e) c.put_tail.ensures.met
+    on_ok_weaker c.put_tail.result (λ e. met_both c.args.met.now c.put_term.new.met c.put_tail.new.met _ _ c.in_ok-put_term.ensures.met e)
+    c.put_tail.ensures.met
 
 pub put_tail-returns-in-Cmp-clause-text : goal.put_tail-returns-in-Cmp-clause-text
 put_tail-returns-in-Cmp-clause-text t c =

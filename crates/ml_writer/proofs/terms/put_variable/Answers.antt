@@ -4,7 +4,7 @@ use Rattle.std.proofs.lemmas.Result.{IfOk-equal}
 use Rattle.ml_term.specs.Decimal.{decimal_text}
 use Rattle.ml_term.proofs.Decimals.{decimal_is_text}
 use Rattle.ml_term.specs.Tree.{firsts}
-use Rattle.ml_writer.proofs.Results.{on_ok_anyhow}
+use Rattle.ml_writer.proofs.WriteResults.{on_ok_anyhow}
 use Rattle.ml_writer.proofs.FirstPlaces.{firsts_twice}
 use Rattle.ml_writer.proofs.terms.put_variable.Goals as goal
 

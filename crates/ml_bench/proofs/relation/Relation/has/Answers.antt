@@ -1,4 +1,4 @@
-use Rattle.ml_file.proofs.Keyable.{keyable}
+use Rattle.ml_file.proofs.KeyableItems.{keyable}
 use Rattle.ml_term.specs.Seen.{seen}
 use Rattle.ml_bench.proofs.relation.Relation.has.Goals as goal
 

@@ -6,7 +6,7 @@ use Rattle.ml_term.specs.Seen.{seen}
 use Rattle.ml_term.specs.Tree.{nodes}
 use Rattle.ml_term.specs.Valid.{is_valid}
 use Rattle.ml_bench.specs.Tuples.{term_of}
-use Rattle.ml_bench.proofs.Allowed.{of_predicate, valid, few}
+use Rattle.ml_bench.proofs.AllowedTuples.{of_predicate, valid, few}
 use Rattle.ml_bench.proofs.relation.Relation.head.Goals as goal
 
 pub returns : goal.returns
@@ -16,10 +16,11 @@ returns c =
     let x = seen c.argument-first.result in
     let y = seen c.argument-second.result in
     let z = seen c.argument-third.result in
-    let named : is_name d.pred.name ≡ true = subst (λ q. is_name q.pred.name ≡ true) c.decl.ensures c.as_slice-name.ensures.valid in
+    let named : is_name d.pred.name ≡ true = subst (λ q. is_name q.pred.name ≡ true) c.decl.ensures c.as_slice-is_name.ensures.valid in
     let same = ap (λ q. term_of w q.pred.name x y z) c.decl.ensures in
     record {
-      declared = IfOk-weaker c.term_of.result _ _ (λ t e. subst (λ u. is_of d.pred.name d.pred.arity u ≡ true) (sym (e ∙ same)) (of_predicate w d x y z c.args.self.now.declared)) c.term_of.ensures;
+      declared = IfOk-weaker c.term_of.result _ _ (λ t e. subst (λ u. is_of d.pred.name d.pred.arity u ≡ true) (sym (e ∙ same))
+          (of_predicate w d x y z c.args.self.now.declared)) c.term_of.ensures;
       valid = IfOk-weaker c.term_of.result _ _ (λ t e. subst (λ u. is_valid u ≡ true) (sym (e ∙ same))
           (valid w d.pred.name x y z named c.argument-first.ensures.valid c.argument-second.ensures.valid c.argument-third.ensures.valid)) c.term_of.ensures;
       small = IfOk-weaker c.term_of.result _ _ (λ t e. subst (λ u. nodes u ≤ 4096) (sym (e ∙ same))

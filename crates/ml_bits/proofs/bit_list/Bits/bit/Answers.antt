@@ -1,6 +1,6 @@
 use Rattle.std.proofs.Common.{◌≡◌, ◌<◌, ◌/◌, length, get_or, arith, ap}
 use Rattle.std.proofs.lemmas.List.{get_or_read}
-use Rattle.ml_bits.proofs.Packed.{length_held, bit_read}
+use Rattle.ml_bits.proofs.PackedBits.{length_held, bit_read}
 use Rattle.ml_bits.proofs.bit_list.Bits.bit.Goals as goal
 
 pub returns : goal.returns

@@ -1,5 +1,5 @@
 use Rattle.std.proofs.Common.{◌≡◌, length, arith, ap}
-use Rattle.ml_bits.proofs.Packed.{length_held}
+use Rattle.ml_bits.proofs.PackedBits.{length_held}
 use Rattle.ml_bits.proofs.bit_list.Bits.copy_of.Goals as goal
 
 pub set_prefix-requires-clause-within : goal.set_prefix-requires-clause-within

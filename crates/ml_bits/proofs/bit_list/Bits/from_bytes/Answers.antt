@@ -3,7 +3,7 @@ use Rattle.std.proofs.lemmas.List.{length-take-le}
 use Rattle.std.proofs.lemmas.Nat.{shr_below}
 use Rattle.ml_bits.specs.BitList.{bits_of, byte_bits}
 use Rattle.ml_bits.proofs.Bytes.{length-byte_bits, byte_bits_take, byte_bits_part}
-use Rattle.ml_bits.proofs.Stored.{filled_once, filled_twice}
+use Rattle.ml_bits.proofs.StoredBits.{filled_once, filled_twice}
 use Rattle.ml_bits.proofs.bit_list.Bits.from_bytes.Goals as goal
 
 pub returns-then-rest-eq0 : goal.returns-then-rest-eq0
@@ -33,7 +33,8 @@ returns c =
     length-take-le c.args.count (byte_bits c.args.bytes.now) (omega (arith, length-byte_bits c.args.bytes.now)) in
     let none = c.in_ok-make_room.ensures.list ∙ ap (λ v. v.bits) c.empty-list.ensures in
     let room : c.make_room.new.self.room ≡ c.args.count = omega (arith, c.in_ok-make_room.ensures.ok, ap (λ v. v.room) c.empty-list.ensures) in
-    let both : byte_bits (take (c.args.count / 8) c.args.bytes.now) ++ bits_of (c.args.count % 8) c.from.result ≡ take c.args.count (byte_bits c.args.bytes.now) =
+    let both : byte_bits (take (c.args.count / 8) c.args.bytes.now) ++ bits_of (c.args.count % 8) c.from.result
+    ≡ take c.args.count (byte_bits c.args.bytes.now) =
     ap (λ v. byte_bits (take (c.args.count / 8) c.args.bytes.now) ++ bits_of (c.args.count % 8) v) c.from.ensures
     ∙ byte_bits_part (c.args.count / 8) (c.args.count % 8) c.args.bytes.now within (omega arith)
     ∙ ap (λ n. take n (byte_bits c.args.bytes.now)) whole in

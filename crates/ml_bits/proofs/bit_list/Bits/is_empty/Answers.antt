@@ -1,6 +1,6 @@
 use Rattle.std.proofs.Common.{◌≡◌, length, eq-eqb, eqb-true, arith, ap}
 use Rattle.std.proofs.lemmas.List.{nil_from_length}
-use Rattle.ml_bits.proofs.Packed.{length_held}
+use Rattle.ml_bits.proofs.PackedBits.{length_held}
 use Rattle.ml_bits.proofs.bit_list.Bits.is_empty.Goals as goal
 
 pub returns : goal.returns

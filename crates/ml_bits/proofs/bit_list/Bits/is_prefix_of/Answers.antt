@@ -2,7 +2,7 @@ use Rattle.std.proofs.Common.{◌≡◌, length, eqb-true, eq-eqb, arith, ap}
 use Rattle.std.proofs.lemmas.Bool.{leb-true}
 use Rattle.ml_bits.proofs.CommonLength.{begins_from_common, common_from_begins}
 use Rattle.ml_bits.proofs.OrderLaws.{begins_within}
-use Rattle.ml_bits.proofs.Packed.{length_held}
+use Rattle.ml_bits.proofs.PackedBits.{length_held}
 use Rattle.ml_bits.proofs.bit_list.Bits.is_prefix_of.Goals as goal
 
 pub returns-then-self-other : goal.returns-then-self-other

@@ -1,5 +1,5 @@
 use Rattle.std.proofs.Common.{sym, ap}
-use Rattle.ml_bits.proofs.Packed.{length_held}
+use Rattle.ml_bits.proofs.PackedBits.{length_held}
 use Rattle.ml_bits.proofs.bit_list.Bits.len.Goals as goal
 
 pub returns-clause-length : goal.returns-clause-length

@@ -1,9 +1,9 @@
 use Rattle.std.proofs.Common.{◌≡◌, ◌+◌, ◌<◌, ◌++◌, max, length, arith, ap, sym, ◌∙◌, subst}
 use Rattle.ml_bits.specs.BitList.{bits_of}
-use Rattle.ml_bits.specs.Packing.{IsPacked, packed_bits}
+use Rattle.ml_bits.specs.inside.Packing.{IsPacked, packed_bits}
 use Rattle.ml_bits.proofs.WordBits.{length-bits_of}
-use Rattle.ml_bits.proofs.Packed.{length_held}
-use Rattle.ml_bits.proofs.Stored.{same_list, on_err}
+use Rattle.ml_bits.proofs.PackedBits.{length_held}
+use Rattle.ml_bits.proofs.StoredBits.{same_list, on_err}
 use Rattle.ml_bits.proofs.bit_list.Bits.push_bits.Goals as goal
 
 pub returns-in_default-clause-full : goal.returns-in_default-clause-full
@@ -48,9 +48,11 @@ returns-clause-ok c =
     let long : length c.args.self.now.bits ≡ c.self.inside.len = length_held _ _ _ c.self.invariant.packed (ap (λ v. v.bits) c.self.view_is) in
     let again : length c.make_room.new.self.bits ≡ c.self-2.inside.len = length_held _ _ _ c.self-2.invariant.packed (ap (λ v. v.bits) c.self-2.view_is) in
     let len : c.self-2.inside.len + c.args.count ≡ c.in-Some.len = omega (arith, long, again, ap length c.in_ok-make_room.ensures.list, c.in-Some.ensures.1) in
-    let bits : packed_bits c.self-2.inside.words.items c.self-2.inside.len ≡ c.args.self.now.bits = ap (λ v. v.bits) c.self-2.view_is ∙ c.in_ok-make_room.ensures.list in
+    let bits : packed_bits c.self-2.inside.words.items c.self-2.inside.len ≡ c.args.self.now.bits =
+    ap (λ v. v.bits) c.self-2.view_is ∙ c.in_ok-make_room.ensures.list in
     let room : c.self-2.inside.room ≡ c.make_room.new.self.room = ap (λ v. v.room) c.self-2.view_is in
-    let most : c.in-Some.len ≡ length c.args.self.now.bits + length (bits_of c.args.count c.args.value) = omega (arith, long, c.in-Some.ensures.1, length-bits_of c.args.count c.args.value) in
+    let most : c.in-Some.len ≡ length c.args.self.now.bits + length (bits_of c.args.count c.args.value) =
+    omega (arith, long, c.in-Some.ensures.1, length-bits_of c.args.count c.args.value) in
     same_list _ _
     (ap (packed_bits c.append.new.words.items) (sym len) ∙ c.append.ensures.held.held ∙ ap (λ bs. bs ++ bits_of c.args.count c.args.value) bits)
     (room ∙ c.in_ok-make_room.ensures.ok ∙ ap (max c.args.self.now.room) most)

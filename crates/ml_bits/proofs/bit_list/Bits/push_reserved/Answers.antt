@@ -1,6 +1,6 @@
 use Rattle.std.proofs.Common.{◌≤◌, length, ap, sym, ◌∙◌, arith, subst}
 use Rattle.ml_bits.specs.BitList.{byte_bits}
-use Rattle.ml_bits.proofs.Stored.{TakesPiece, takes_piece}
+use Rattle.ml_bits.proofs.StoredBits.{TakesPiece, takes_piece}
 use Rattle.ml_bits.proofs.bit_list.Bits.push_reserved.Goals as goal
 
 pub loop-rest-preserved : goal.loop-rest-preserved

@@ -2,7 +2,7 @@ use Rattle.std.proofs.Common.{ap, subst}
 use Rattle.std.specs.Prelude.{MatchOption}
 use Rattle.ml_region.specs.Regions.{HasNoKey, IsFound}
 use Rattle.ml_file.specs.Files.{File, IsAbsent, IsHeld}
-use Rattle.ml_file.proofs.Held.{weaker, absent_from, held_from}
+use Rattle.ml_file.proofs.HeldItems.{weaker, absent_from, held_from}
 use Rattle.ml_file.proofs.file.BangFile.at.Goals as goal
 
 pub returns : goal.returns

@@ -1,5 +1,5 @@
 use Rattle.ml_search.specs.ItemsSeen.{items_seen}
-use Rattle.ml_file.proofs.Filling.{AreSettledTo}
+use Rattle.ml_file.proofs.StoreFilling.{AreSettledTo}
 use Rattle.ml_file.proofs.store.Store.from_items.Given as goal
 
 -- the first files are settled

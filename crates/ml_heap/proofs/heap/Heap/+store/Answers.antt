@@ -4,11 +4,12 @@ use Rattle.std.proofs.Common.{rules, w64, SFits, ◌≡◌, ◌++◌, ◌∷◌,
 use Rattle.std.proofs.lemmas.List.{take_all}
 use Rattle.ml_term.specs.Tree.{integer, compound, trees_of, variables_of}
 use Rattle.ml_term.specs.Seen.{seen, all_seen}
-use Rattle.ml_term.proofs.Views.{seen_integer, seen_atom, seen_compound}
+use Rattle.ml_term.proofs.CompoundTrees.{seen_integer, seen_atom, seen_compound}
 use Rattle.ml_heap.specs.Changes.{HasOneMore}
 use Rattle.ml_heap.specs.Storing.{AreStored}
-use Rattle.ml_heap.proofs.Copying.{stored_variable, stored_integer, stored_atom, stored_compound, one_more_stored, grows_on, nodes_of_item, valid_item, seen_so_far, seen_variable}
-use Rattle.ml_heap.proofs.Walking.{cells_at}
+use Rattle.ml_heap.proofs.StoredTerms.{stored_variable, stored_integer, stored_atom, stored_compound, one_more_stored, grows_on, nodes_of_item, valid_item}
+use Rattle.ml_heap.proofs.StoredTerms.{seen_so_far, seen_variable}
+use Rattle.ml_heap.proofs.TermWalks.{cells_at}
 use Rattle.ml_heap.proofs.heap.Heap.+store.Goals as goal
 
 pub store-new_cmp-requires-clause-low : goal.store-new_cmp-requires-clause-low
@@ -34,13 +35,16 @@ store-returns-in_ok-new_int-in-Int-clause-stored t c base ns w =
     let e = ap seen c.in-Int.is ∙ seen_integer _ in
     let fits : SFits w64 c.in-Int.v = search rules in
     let one =
-    subst (λ z. HasOneMore c.args.self.now c.new_int.new.self c.in_ok-new_int-in-Int.field-0 (integer z)) (to_z-of_z w64 c.in-Int.v fits) c.in_ok-new_int-in-Int.ensures.made in
-    stored_integer _ _ _ _ _ _ _ w (subst (HasOneMore c.args.self.now c.new_int.new.self c.in_ok-new_int-in-Int.field-0) (sym e) one) c.in_ok-new_int-in-Int.ensures.counted _ e
+    subst (λ z. HasOneMore c.args.self.now c.new_int.new.self c.in_ok-new_int-in-Int.field-0 (integer z))
+    (to_z-of_z w64 c.in-Int.v fits) c.in_ok-new_int-in-Int.ensures.made in
+    stored_integer _ _ _ _ _ _ _ w (subst (HasOneMore c.args.self.now c.new_int.new.self c.in_ok-new_int-in-Int.field-0) (sym e) one)
+    c.in_ok-new_int-in-Int.ensures.counted _ e
 
 pub store-returns-in_ok-new_atom-in-Atom-clause-stored : goal.store-returns-in_ok-new_atom-in-Atom-clause-stored
 store-returns-in_ok-new_atom-in-Atom-clause-stored t c base ns w =
     let e = ap seen c.in-Atom.is ∙ seen_atom _ in
-    stored_atom _ _ _ _ _ _ _ w (subst (HasOneMore c.args.self.now c.new_atom.new.self c.in_ok-new_atom-in-Atom.field-0) (sym e) c.in_ok-new_atom-in-Atom.ensures.made)
+    stored_atom _ _ _ _ _ _ _ w (subst (HasOneMore c.args.self.now c.new_atom.new.self c.in_ok-new_atom-in-Atom.field-0)
+    (sym e) c.in_ok-new_atom-in-Atom.ensures.made)
     c.in_ok-new_atom-in-Atom.ensures.counted _ e
 
 pub store-returns-in_ok-new_cmp-in-Cmp-clause-stored : goal.store-returns-in_ok-new_cmp-in-Cmp-clause-stored

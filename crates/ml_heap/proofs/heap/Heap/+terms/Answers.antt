@@ -1,6 +1,6 @@
 -- A compound's arguments have fewer nodes, and each of them no more than all.
 use Rattle.std.proofs.Common.{arith}
-use Rattle.ml_heap.proofs.Walking.{nodes_of_one, arguments_nodes, arguments_are_inside}
+use Rattle.ml_heap.proofs.TermWalks.{nodes_of_one, arguments_nodes, arguments_are_inside}
 use Rattle.ml_heap.proofs.heap.Heap.+terms.Goals as goal
 
 pub term_at-terms_at-requires : goal.term_at-terms_at-requires

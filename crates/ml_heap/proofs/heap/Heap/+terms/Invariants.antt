@@ -3,7 +3,7 @@ use Rattle.std.proofs.Common.{◌≡◌, ◌+◌, ◌*◌, map, take}
 use Rattle.ml_term.specs.Tree.{nodes}
 use Rattle.ml_term.specs.Seen.{all_seen}
 use Rattle.ml_heap.specs.Changes.{stands_for}
-use Rattle.ml_heap.specs.Walks.{nodes_at}
+use Rattle.ml_heap.specs.inside.Walks.{nodes_at}
 use Rattle.ml_heap.proofs.heap.Heap.+terms.Given as goal
 
 abbrev pub decreases-term_at : goal.decreases-term_at

@@ -2,7 +2,8 @@
 use Rattle.std.proofs.Common.{◌≡◌, ◌+◌, ◌≤◌, length}
 use Rattle.ml_term.specs.Tree.{nodes}
 use Rattle.ml_heap.specs.Changes.{cell_count, stands_for}
-use Rattle.ml_heap.specs.Walks.{AreCells, nodes_at}
+use Rattle.ml_heap.specs.Changes.{AreCells}
+use Rattle.ml_heap.specs.inside.Walks.{nodes_at}
 use Rattle.ml_heap.proofs.heap.Heap.is_too_large.Given as goal
 
 abbrev pub invariant-loop-at : goal.invariant-loop-at

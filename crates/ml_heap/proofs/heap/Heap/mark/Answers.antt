@@ -1,6 +1,6 @@
 -- There are as many changes as steps.
 use Rattle.std.proofs.Common.{ap, arith, length}
-use Rattle.ml_heap.proofs.Making.{as_many_steps}
+use Rattle.ml_heap.proofs.MadeCells.{as_many_steps}
 use Rattle.ml_heap.proofs.heap.Heap.mark.Goals as goal
 
 pub returns : goal.returns

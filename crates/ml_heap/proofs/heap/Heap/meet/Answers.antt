@@ -1,5 +1,5 @@
 -- A compound is put last.
-use Rattle.ml_heap.proofs.Walking.{occurs_last, nodes_last, inside_last}
+use Rattle.ml_heap.proofs.TermWalks.{occurs_last, nodes_last, inside_last}
 use Rattle.ml_heap.proofs.heap.Heap.meet.Goals as goal
 
 pub returns-in_ok-push-in-Cmp-clause-left : goal.returns-in_ok-push-in-Cmp-clause-left

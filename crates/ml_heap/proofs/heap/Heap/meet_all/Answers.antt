@@ -1,6 +1,6 @@
 -- The cell that was met is one of them.
 use Rattle.std.proofs.Common.{◌-◌, ◌<◌, arith, length}
-use Rattle.ml_heap.proofs.Walking.{one_occurs}
+use Rattle.ml_heap.proofs.TermWalks.{one_occurs}
 use Rattle.ml_heap.proofs.heap.Heap.meet_all.Goals as goal
 
 pub returns-then-branch-clause-found : goal.returns-then-branch-clause-found

@@ -1,7 +1,8 @@
 -- The later cells were met.
 use Rattle.std.proofs.Common.{◌≡◌, ◌+◌, ◌≤◌, ◌||◌, length, drop}
 use Rattle.ml_heap.specs.Changes.{cell_count}
-use Rattle.ml_heap.specs.Walks.{AreCells, occurs_at, nodes_at}
+use Rattle.ml_heap.specs.Changes.{AreCells}
+use Rattle.ml_heap.specs.inside.Walks.{occurs_at, nodes_at}
 use Rattle.ml_heap.proofs.heap.Heap.meet_all.Given as goal
 
 abbrev pub invariant-loop-i : goal.invariant-loop-i

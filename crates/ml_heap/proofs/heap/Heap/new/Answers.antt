@@ -1,6 +1,6 @@
 -- With no cells and no steps there is nothing to keep.
 use Rattle.std.proofs.Common.{[], refl}
-use Rattle.ml_heap.proofs.Making.{nothing_kept, kept_as}
+use Rattle.ml_heap.proofs.MadeCells.{nothing_kept, kept_as}
 use Rattle.ml_heap.proofs.heap.Heap.new.Goals as goal
 
 pub invariant_of-result : goal.invariant_of-result

@@ -2,7 +2,7 @@
 use Rattle.std.proofs.Common.{arith, sym, ap, ◌∙◌}
 use Rattle.ml_term.specs.Tree.{occurs}
 use Rattle.ml_heap.specs.Changes.{stands_for}
-use Rattle.ml_heap.proofs.Walking.{last_inside, rest_inside, as_many, occurs_last, found_last}
+use Rattle.ml_heap.proofs.TermWalks.{last_inside, rest_inside, as_many, occurs_last, found_last}
 use Rattle.ml_heap.proofs.heap.Heap.occurs_in.Goals as goal
 
 pub walk-requires-in-Some : goal.walk-requires-in-Some

@@ -2,7 +2,8 @@
 use Rattle.std.proofs.Common.{◌≡◌}
 use Rattle.ml_term.specs.Tree.{occurs}
 use Rattle.ml_heap.specs.Changes.{cell_count, stands_for}
-use Rattle.ml_heap.specs.Walks.{AreCells, occurs_at, nodes_at}
+use Rattle.ml_heap.specs.Changes.{AreCells}
+use Rattle.ml_heap.specs.inside.Walks.{occurs_at, nodes_at}
 use Rattle.ml_heap.proofs.heap.Heap.occurs_in.Given as goal
 
 abbrev pub invariant-loop-at : goal.invariant-loop-at

@@ -1,6 +1,6 @@
 -- A compound has its arguments' nodes and one more.
 use Rattle.std.proofs.Common.{ap, ◌∙◌, ◌++◌, reverse}
-use Rattle.ml_heap.proofs.Walking.{nodes_of_arguments, arguments_inside}
+use Rattle.ml_heap.proofs.TermWalks.{nodes_of_arguments, arguments_inside}
 use Rattle.ml_heap.proofs.heap.Heap.push_arguments.Goals as goal
 
 pub returns-in_ok-push_places-in-Cmp-clause-nodes : goal.returns-in_ok-push_places-in-Cmp-clause-nodes

@@ -1,7 +1,7 @@
 -- At first no variable was met, so the new numbers are those from the heap's count on.
 use Rattle.std.proofs.Common.{[], length}
 use Rattle.ml_heap.specs.Changes.{variable_count}
-use Rattle.ml_heap.proofs.Copying.{nothing_met}
+use Rattle.ml_heap.proofs.StoredTerms.{nothing_met}
 use Rattle.ml_heap.proofs.heap.Heap.store_tree.Goals as goal
 
 pub store-requires-clause-known : goal.store-requires-clause-known

@@ -1,7 +1,7 @@
 -- The variable was met before, or is created now.
 use Rattle.std.proofs.Common.{◌≡◌, ◌==◌, cond, Some, sym, ap, ◌∙◌}
 use Rattle.ml_heap.specs.Storing.{cell_of}
-use Rattle.ml_heap.proofs.Copying.{met_before, met_now}
+use Rattle.ml_heap.proofs.StoredTerms.{met_before, met_now}
 use Rattle.ml_heap.proofs.heap.Heap.store_variable.Goals as goal
 
 pub returns-in-Some-clause-stored : goal.returns-in-Some-clause-stored

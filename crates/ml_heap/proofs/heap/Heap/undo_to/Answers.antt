@@ -1,6 +1,6 @@
 -- The heap of the mark stays the same while later changes are undone.
 use Rattle.std.proofs.Common.{◌<◌, ◌∙◌, arith, length}
-use Rattle.ml_heap.proofs.MarksStay.{undone_once}
+use Rattle.ml_heap.proofs.HeapMarks.{undone_once}
 use Rattle.ml_heap.proofs.heap.Heap.undo_to.Goals as goal
 
 pub loop-m-preserved : goal.loop-m-preserved

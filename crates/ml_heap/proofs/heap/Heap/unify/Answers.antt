@@ -1,7 +1,7 @@
 -- One rule for the two cells, and then what it leaves.
 use Rattle.std.proofs.Common.{◌≡◌, ◌∙◌, sym, ap}
 use Rattle.std.specs.Option.{is_some}
-use Rattle.ml_heap.proofs.Solving.{first_leads, found_later, replaced_later, none_at_first, no_replacing_at_first}
+use Rattle.ml_heap.proofs.EquationWorklists.{first_leads, found_later, replaced_later, none_at_first, no_replacing_at_first}
 use Rattle.ml_heap.proofs.heap.Heap.unify.Goals as goal
 
 pub returns-in_ok-solve-clause-found : goal.returns-in_ok-solve-clause-found
@@ -18,7 +18,9 @@ returns-in_ok-solve-clause-replaced c m e =
 
 pub returns-else-branch-clause-found : goal.returns-else-branch-clause-found
 returns-else-branch-clause-found c =
-    c.if-branch.false ∙ sym (ap is_some (none_at_first c.args.self.now _ _ _ _ c.place.ensures c.place-2.ensures (c.in_ok-turn.ensures.clashed c.if-branch.false)))
+    c.if-branch.false ∙ sym (ap is_some (none_at_first c.args.self.now _ _ _ _ c.place.ensures c.place-2.ensures
+    (c.in_ok-turn.ensures.clashed c.if-branch.false)))
 
 pub returns-else-branch-clause-replaced : goal.returns-else-branch-clause-replaced
-returns-else-branch-clause-replaced c m e = no_replacing_at_first c.args.self.now _ _ _ _ c.place.ensures c.place-2.ensures (c.in_ok-turn.ensures.clashed c.if-branch.false) _ m e
+returns-else-branch-clause-replaced c m e = no_replacing_at_first c.args.self.now _ _ _ _ c.place.ensures c.place-2.ensures
+    (c.in_ok-turn.ensures.clashed c.if-branch.false) _ m e

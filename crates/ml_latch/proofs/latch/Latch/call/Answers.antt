@@ -1,6 +1,6 @@
 use Rattle.std.proofs.Common.{ap, sym, subst}
 use mathlib.Core.List.{IsPrefix}
-use Rattle.ml_latch.proofs.Lists.{prefix_trans}
+use Rattle.ml_latch.proofs.ListLemmas.{prefix_trans}
 use Rattle.ml_latch.proofs.latch.Latch.call.Goals as goal
 
 pub returns-clause-seen : goal.returns-clause-seen

@@ -2,7 +2,7 @@ use Rattle.std.proofs.Common.{rules, ◌≡◌, ap, sym, ◌∙◌, Some}
 use mathlib.Core.Option.{none}
 use Rattle.atomic_table.specs.Table.{step}
 use Rattle.ml_latch.specs.Place.{IsIdle}
-use Rattle.ml_latch.proofs.Seating.{joins, settles}
+use Rattle.ml_latch.proofs.SeatSteps.{joins, settles}
 use Rattle.ml_latch.proofs.latch.Latch.join.Goals as goal
 
 pub join_seat-requires : goal.join_seat-requires
@@ -10,7 +10,8 @@ join_seat-requires g c =
     let k = g.V.Kept in
     let start = ap (λ l. Some l.start) (sym c.self.view_is) in
     let begun : c.into.inside.place.me.0.start ≡ Some c.self.inside.table.shared.key.value = ap (λ s. s.start) c.into.view_is ∙ (c.requires.latch.1 ∙ start) in
-    let begun' : c.other.inside.place.me.0.start ≡ Some c.self.inside.table.shared.key.value = ap (λ s. s.start) c.other.view_is ∙ (c.requires.other.1 ∙ start) in
+    let begun' : c.other.inside.place.me.0.start ≡ Some c.self.inside.table.shared.key.value = ap (λ s. s.start) c.other.view_is
+    ∙ (c.requires.other.1 ∙ start) in
     let i = c.into.invariant.2.1 in
     let o = c.other.invariant.2.1 in
     let table = ap (λ l. l.table) (sym c.self.view_is) in (

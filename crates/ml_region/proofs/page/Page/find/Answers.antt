@@ -4,9 +4,9 @@ use Rattle.ml_region.specs.Prefixes.{bits_at}
 use Rattle.ml_region.specs.Regions.{keys_of}
 use Rattle.ml_region.specs.declared.item.Item.{Item}
 use Rattle.ml_region.proofs.KeyOrder.{not_equal_from_test}
-use Rattle.ml_region.proofs.Found.{key_of_item}
-use Rattle.ml_region.proofs.Pages.{not_among}
-use Rattle.ml_region.proofs.Standing.{keys_length}
+use Rattle.ml_region.proofs.FoundItems.{key_of_item}
+use Rattle.ml_region.proofs.PageSearch.{not_among}
+use Rattle.ml_region.proofs.RegionItems.{keys_length}
 use Rattle.ml_region.proofs.page.Page.find.Goals as goal
 use Rattle.ml_region.proofs.page.Page.find.Goals.{else-j-len-via-then-j-len+else-is_eq, else-j-len-via-else-j-len}
 

@@ -1,6 +1,6 @@
 use Rattle.std.proofs.Common.{◌-◌}
 use Rattle.ml_region.specs.Regions.{keys_of}
-use Rattle.ml_region.proofs.Pages.{Narrowing}
+use Rattle.ml_region.proofs.PageSearch.{Narrowing}
 use Rattle.ml_region.proofs.page.Page.first_from.Given as goal
 
 abbrev pub invariant-halves : goal.invariant-halves

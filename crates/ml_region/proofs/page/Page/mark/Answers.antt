@@ -1,4 +1,4 @@
-use Rattle.ml_region.proofs.Standing.{marked_at}
+use Rattle.ml_region.proofs.RegionItems.{marked_at}
 use Rattle.ml_region.proofs.page.Page.mark.Goals as goal
 
 pub returns : goal.returns

@@ -1,5 +1,5 @@
 use Rattle.std.proofs.Common.{sym, ◌∙◌}
-use Rattle.ml_region.proofs.Listing.{prefixes_length}
+use Rattle.ml_region.proofs.ListingChanges.{prefixes_length}
 use Rattle.ml_region.proofs.prefixes.DirectoryPrefixesPrefixes.len.Goals as goal
 
 pub returns : goal.returns

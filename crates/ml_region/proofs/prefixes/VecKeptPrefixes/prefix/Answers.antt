@@ -1,6 +1,6 @@
 use Rattle.std.proofs.Common.{◌<◌, List, length, sym, ap, ◌∙◌, arith}
 use Rattle.ml_region.specs.declared.kept.Kept.{Kept}
-use Rattle.ml_region.proofs.Elements.{kept_length, kept_prefix}
+use Rattle.ml_region.proofs.SortedElements.{kept_length, kept_prefix}
 use Rattle.ml_region.proofs.prefixes.VecKeptPrefixes.prefix.Goals as goal
 
 pub returns : goal.returns

@@ -6,7 +6,7 @@ use Rattle.ml_term.specs.Patterns.{may_hold}
 use Rattle.ml_region.specs.Prefixes.{bits_at}
 use Rattle.ml_region.specs.Regions.{Region, region_prefixes}
 use Rattle.ml_region.proofs.StoredRegions.{prefix_of_region, region_prefixes_length}
-use Rattle.ml_region.proofs.Below.{none_below, one_more}
+use Rattle.ml_region.proofs.PrefixesBelow.{none_below, one_more}
 use Rattle.ml_region.proofs.regions.Regions.compatible.Goals as goal
 
 pub each-preserved-then-may_hold : goal.each-preserved-then-may_hold

@@ -1,17 +1,18 @@
 use Rattle.std.proofs.Common.{◌≡◌, ◌<◌, List, length, sym, ap, ◌∙◌, subst, arith}
 use Rattle.std.specs.Prelude.{vec_capacity}
-use Rattle.ml_region.specs.Compatible.{IsEndOfBelow}
+use Rattle.ml_region.specs.inside.Compatible.{IsEndOfBelow}
 use Rattle.ml_region.specs.Listing.{Entry}
 use Rattle.ml_region.specs.Regions.{Region, RegionList, region_at, region_prefixes}
-use Rattle.ml_region.specs.Stored.{regions_of}
+use Rattle.ml_region.specs.inside.Stored.{regions_of}
 use Rattle.ml_region.specs.declared.item.Item.{Item}
 use Rattle.ml_region.proofs.StoredRegions.{regions_length, listing_of, regions_prefixes}
-use Rattle.ml_region.proofs.Found.{prefix_of_entry}
+use Rattle.ml_region.proofs.FoundItems.{prefix_of_entry}
 use Rattle.ml_region.proofs.regions.Regions.end_of_below.Goals as goal
 
 pub end_of_begun-requires-clause-listing : goal.end_of_begun-requires-clause-listing
 end_of_begun-requires-clause-listing g c =
-    listing_of (g.D.Directory.listing c.self.inside.dir).entries c.self.inside.pages.items c.self.inside.free.items (vec_capacity c.self.inside.free) c.self.invariant
+    listing_of (g.D.Directory.listing c.self.inside.dir).entries c.self.inside.pages.items c.self.inside.free.items
+    (vec_capacity c.self.inside.free) c.self.invariant
 
 pub end_of_begun-requires-clause-prefix : goal.end_of_begun-requires-clause-prefix
 end_of_begun-requires-clause-prefix g c =

@@ -5,9 +5,9 @@ use Rattle.ml_region.specs.Changes.{IsMarked, IsMarkedAt}
 use Rattle.ml_region.specs.Prefixes.{bits_at, IsRising}
 use Rattle.ml_region.specs.Listing.{Entry}
 use Rattle.ml_region.specs.Regions.{Region, RegionList, HasNoKey, keys_of}
-use Rattle.ml_region.specs.Stored.{page_at, regions_of}
+use Rattle.ml_region.specs.inside.Stored.{page_at, regions_of}
 use Rattle.ml_region.specs.declared.item.Item.{Item}
-use Rattle.ml_region.proofs.Changing.{owner_inside, owner_rising, owner_lacks, mark_item}
+use Rattle.ml_region.proofs.ItemChanges.{owner_inside, owner_rising, owner_lacks, mark_item}
 use Rattle.ml_region.proofs.regions.Regions.mark.Goals as goal
 
 pub index-requires : goal.index-requires
@@ -70,10 +70,12 @@ invariant_of-self g c =
     let second : c.index_mut.result.now ≡ page_at pages slot = get_or_read pages slot c.index_mut.result.now inside c.index_mut.ensures.value [] in
     let j : ℕ = c.in-Some.j in
     let within : j < length (page_at pages slot) = subst (λ xs. j < length xs) first c.in-Some.ensures.0 in
-    let key : bits_at (keys_of (page_at pages slot)) j ≡ c.args.key.now.bits = subst (λ xs. bits_at (keys_of xs) j ≡ c.args.key.now.bits) first c.in-Some.ensures.1 in
+    let key : bits_at (keys_of (page_at pages slot)) j ≡ c.args.key.now.bits =
+    subst (λ xs. bits_at (keys_of xs) j ≡ c.args.key.now.bits) first c.in-Some.ensures.1 in
     let at : IsMarkedAt (page_at pages slot) j c.args.committed c.args.id c.mark.new.self =
     subst (λ xs. IsMarkedAt xs j c.args.committed c.args.id c.mark.new.self) second c.mark.ensures in
-    let both = mark_item entries pages free reserved c.args.key.now.bits slot j c.args.committed c.args.id c.mark.new.self c.self.invariant c.owner-slot.ensures within key at in
+    let both = mark_item entries pages free reserved c.args.key.now.bits slot j c.args.committed c.args.id c.mark.new.self c.self.invariant c.owner-slot.ensures
+    within key at in
     both.0
 
 pub returns-clause-regions : goal.returns-clause-regions
@@ -89,10 +91,12 @@ returns-clause-regions g c =
     let second : c.index_mut.result.now ≡ page_at pages slot = get_or_read pages slot c.index_mut.result.now inside c.index_mut.ensures.value [] in
     let j : ℕ = c.in-Some.j in
     let within : j < length (page_at pages slot) = subst (λ xs. j < length xs) first c.in-Some.ensures.0 in
-    let key : bits_at (keys_of (page_at pages slot)) j ≡ c.args.key.now.bits = subst (λ xs. bits_at (keys_of xs) j ≡ c.args.key.now.bits) first c.in-Some.ensures.1 in
+    let key : bits_at (keys_of (page_at pages slot)) j ≡ c.args.key.now.bits =
+    subst (λ xs. bits_at (keys_of xs) j ≡ c.args.key.now.bits) first c.in-Some.ensures.1 in
     let at : IsMarkedAt (page_at pages slot) j c.args.committed c.args.id c.mark.new.self =
     subst (λ xs. IsMarkedAt xs j c.args.committed c.args.id c.mark.new.self) second c.mark.ensures in
-    let both = mark_item entries pages free reserved c.args.key.now.bits slot j c.args.committed c.args.id c.mark.new.self c.self.invariant c.owner-slot.ensures within key at in
+    let both = mark_item entries pages free reserved c.args.key.now.bits slot j c.args.committed c.args.id c.mark.new.self c.self.invariant c.owner-slot.ensures
+    within key at in
     subst (λ (q : List Region). IsMarked q c.args.key.now.bits c.args.committed c.args.id (regions_of entries (set pages slot c.mark.new.self))) same both.1
 
 pub unreachable-requires : goal.unreachable-requires

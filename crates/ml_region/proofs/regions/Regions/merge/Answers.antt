@@ -3,25 +3,27 @@ use Rattle.std.specs.Prelude.{Contains, vec_capacity}
 use Rattle.std.specs.List.{remove}
 use Rattle.std.proofs.Math.ListN.{length-set}
 use Rattle.ml_region.specs.Changes.{IsMerged}
-use Rattle.ml_region.specs.Moves.{IsPoured}
+use Rattle.ml_region.specs.inside.Moves.{IsPoured}
 use Rattle.ml_region.specs.Prefixes.{IsRising, IsParent}
 use Rattle.ml_region.specs.Listing.{Entry, IsSlotOfParent, prefix_at, slot_at}
 use Rattle.ml_region.specs.Regions.{Region, RegionList, items_at, keys_of, region_at, region_prefixes}
-use Rattle.ml_region.specs.Stored.{page_at, regions_of, IsStored}
+use Rattle.ml_region.specs.inside.Stored.{page_at, regions_of, IsStored}
 use Rattle.ml_region.specs.declared.item.Item.{Item}
-use Rattle.ml_region.proofs.Elements.{whole_back}
-use Rattle.ml_region.proofs.Found.{page_rising}
+use Rattle.ml_region.proofs.SortedElements.{whole_back}
+use Rattle.ml_region.proofs.FoundItems.{page_rising}
 use Rattle.ml_region.proofs.MergeSteps.{parent_is, parent_in_front, parent_within, own_items, parent_items, keys_differ, merge_end}
 use Rattle.ml_region.proofs.StoredRegions.{regions_length, slot_within, slots_apart, listing_of}
 use Rattle.ml_region.proofs.regions.Regions.merge.Goals as goal
 
 pub slot_of-from-requires-clause-listing : goal.slot_of-from-requires-clause-listing
 slot_of-from-requires-clause-listing g c =
-    listing_of (g.D.Directory.listing c.self.inside.dir).entries c.self.inside.pages.items c.self.inside.free.items (vec_capacity c.self.inside.free) c.self.invariant
+    listing_of (g.D.Directory.listing c.self.inside.dir).entries c.self.inside.pages.items c.self.inside.free.items
+    (vec_capacity c.self.inside.free) c.self.invariant
 
 pub parent_slot-to-requires-clause-listing : goal.parent_slot-to-requires-clause-listing
 parent_slot-to-requires-clause-listing g c =
-    listing_of (g.D.Directory.listing c.self.inside.dir).entries c.self.inside.pages.items c.self.inside.free.items (vec_capacity c.self.inside.free) c.self.invariant
+    listing_of (g.D.Directory.listing c.self.inside.dir).entries c.self.inside.pages.items c.self.inside.free.items
+    (vec_capacity c.self.inside.free) c.self.invariant
 
 pub pour-requires-clause-from : goal.pour-requires-clause-from
 pour-requires-clause-from g c =
@@ -74,7 +76,8 @@ pour-requires-clause-apart g c =
     let lent : c.deref_mut.result.now ≡ pages = c.deref_mut.ensures.value in
     let front : sp.place < i = parent_in_front entries pages free reserved i to c.self.invariant h sp in
     let p_in : sp.place < length entries = parent_within entries pages free reserved i to c.self.invariant h sp in
-    λ e. let one : i ≡ sp.place = slots_apart entries free (length pages) i sp.place c.self.invariant.shared h p_in (sym c.slot_of-from.ensures ∙ e ∙ sp.same) in omega arith
+    λ e. let one : i ≡ sp.place = slots_apart entries free (length pages) i sp.place c.self.invariant.shared h p_in
+    (sym c.slot_of-from.ensures ∙ e ∙ sp.same) in omega arith
 
 pub pour-requires-clause-few : goal.pour-requires-clause-few
 pour-requires-clause-few g c =
@@ -94,13 +97,15 @@ pour-requires-clause-few g c =
     let few : length (page_at pages to) + length (page_at pages (slot_at entries i)) ≤ 31 =
     omega (
       arith,
-      c.requires.few sp.place (subst (λ (q : List Region). IsParent (region_prefixes q) (region_at q i).prefix sp.place) same (parent_is entries pages free reserved i to c.self.invariant h sp)),
+      c.requires.few sp.place (subst (λ (q : List Region). IsParent (region_prefixes q) (region_at q i).prefix sp.place) same
+          (parent_is entries pages free reserved i to c.self.invariant h sp)),
       ap (λ (q : List Region). length (items_at q sp.place)) same,
       ap (λ (q : List Region). length (items_at q i)) same,
       ap length (parent_items entries pages free reserved i to c.self.invariant h sp),
       ap length (own_items entries pages free reserved i to c.self.invariant h sp),
     ) in
-    subst (λ ps. length (page_at ps to) + length (page_at ps from) ≤ 31) (sym lent) (subst (λ s. length (page_at pages to) + length (page_at pages s) ≤ 31) (sym c.slot_of-from.ensures) few)
+    subst (λ ps. length (page_at ps to) + length (page_at ps from) ≤ 31) (sym lent)
+    (subst (λ s. length (page_at pages to) + length (page_at pages s) ≤ 31) (sym c.slot_of-from.ensures) few)
 
 pub pour-requires-clause-rising : goal.pour-requires-clause-rising
 pour-requires-clause-rising g c =
@@ -175,7 +180,8 @@ invariant_of-self g c =
     let few : length (page_at pages to) + length (page_at pages (slot_at entries i)) ≤ 31 =
     omega (
       arith,
-      c.requires.few sp.place (subst (λ (q : List Region). IsParent (region_prefixes q) (region_at q i).prefix sp.place) same (parent_is entries pages free reserved i to c.self.invariant h sp)),
+      c.requires.few sp.place (subst (λ (q : List Region). IsParent (region_prefixes q) (region_at q i).prefix sp.place) same
+          (parent_is entries pages free reserved i to c.self.invariant h sp)),
       ap (λ (q : List Region). length (items_at q sp.place)) same,
       ap (λ (q : List Region). length (items_at q i)) same,
       ap length (parent_items entries pages free reserved i to c.self.invariant h sp),
@@ -189,7 +195,8 @@ invariant_of-self g c =
     c.push_reserved.ensures.items ∙ ap (λ s. free ++ s ∷ []) c.slot_of-from.ensures in
     let size : length new ≡ length pages =
     ap length poured.same ∙ length-set (set pages (slot_at entries i) []) to poured.items ∙ length-set pages (slot_at entries i) [] in
-    let back : take c.self.inside.pages.len (new ++ drop (length new) pages) ≡ new = whole_back new pages c.self.inside.pages.len size (omega (arith, c.self.inside.pages.ok.0)) in
+    let back : take c.self.inside.pages.len (new ++ drop (length new) pages) ≡ new =
+    whole_back new pages c.self.inside.pages.len size (omega (arith, c.self.inside.pages.ok.0)) in
     let both = merge_end entries pages free reserved i to c.self.invariant h sp new few poured in
     let first : IsStored (remove entries i) new (free ++ slot_at entries i ∷ []) (vec_capacity c.push_reserved.new.self) =
     subst (λ n. IsStored (remove entries i) new (free ++ slot_at entries i ∷ []) n) (sym c.push_reserved.ensures.capacity) both.0 in
@@ -215,7 +222,8 @@ returns-clause-regions g c =
     let few : length (page_at pages to) + length (page_at pages (slot_at entries i)) ≤ 31 =
     omega (
       arith,
-      c.requires.few sp.place (subst (λ (q : List Region). IsParent (region_prefixes q) (region_at q i).prefix sp.place) same (parent_is entries pages free reserved i to c.self.invariant h sp)),
+      c.requires.few sp.place (subst (λ (q : List Region). IsParent (region_prefixes q) (region_at q i).prefix sp.place) same
+          (parent_is entries pages free reserved i to c.self.invariant h sp)),
       ap (λ (q : List Region). length (items_at q sp.place)) same,
       ap (λ (q : List Region). length (items_at q i)) same,
       ap length (parent_items entries pages free reserved i to c.self.invariant h sp),
@@ -229,7 +237,8 @@ returns-clause-regions g c =
     c.push_reserved.ensures.items ∙ ap (λ s. free ++ s ∷ []) c.slot_of-from.ensures in
     let size : length new ≡ length pages =
     ap length poured.same ∙ length-set (set pages (slot_at entries i) []) to poured.items ∙ length-set pages (slot_at entries i) [] in
-    let back : take c.self.inside.pages.len (new ++ drop (length new) pages) ≡ new = whole_back new pages c.self.inside.pages.len size (omega (arith, c.self.inside.pages.ok.0)) in
+    let back : take c.self.inside.pages.len (new ++ drop (length new) pages) ≡ new =
+    whole_back new pages c.self.inside.pages.len size (omega (arith, c.self.inside.pages.ok.0)) in
     let both = merge_end entries pages free reserved i to c.self.invariant h sp new few poured in
     subst (λ (q : List Region). IsMerged q i (regions_of after (take c.self.inside.pages.len (new ++ drop (length new) pages)))) same
     (subst (λ ps. IsMerged (regions_of entries pages) i (regions_of after ps)) (sym back)

@@ -3,15 +3,16 @@ use Rattle.std.specs.Prelude.{vec_capacity}
 use Rattle.std.proofs.lemmas.List.{get_or_read}
 use Rattle.ml_region.specs.Listing.{Entry}
 use Rattle.ml_region.specs.Regions.{Region, RegionList, items_at}
-use Rattle.ml_region.specs.Stored.{page_at, regions_of}
+use Rattle.ml_region.specs.inside.Stored.{page_at, regions_of}
 use Rattle.ml_region.specs.declared.item.Item.{Item}
 use Rattle.ml_region.proofs.StoredRegions.{regions_length, slot_within, listing_of}
-use Rattle.ml_region.proofs.Found.{items_of_page}
+use Rattle.ml_region.proofs.FoundItems.{items_of_page}
 use Rattle.ml_region.proofs.regions.Regions.page.Goals as goal
 
 pub slot_of-requires-clause-listing : goal.slot_of-requires-clause-listing
 slot_of-requires-clause-listing g c =
-    listing_of (g.D.Directory.listing c.self.inside.dir).entries c.self.inside.pages.items c.self.inside.free.items (vec_capacity c.self.inside.free) c.self.invariant
+    listing_of (g.D.Directory.listing c.self.inside.dir).entries c.self.inside.pages.items c.self.inside.free.items
+    (vec_capacity c.self.inside.free) c.self.invariant
 
 pub index-requires : goal.index-requires
 index-requires g c =

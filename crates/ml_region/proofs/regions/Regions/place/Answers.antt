@@ -6,10 +6,10 @@ use Rattle.ml_region.specs.Changes.{IsPut}
 use Rattle.ml_region.specs.Prefixes.{IsRising, IsOwner}
 use Rattle.ml_region.specs.Listing.{Entry}
 use Rattle.ml_region.specs.Regions.{Region, RegionList, IsApart, items_at, keys_of, region_prefixes}
-use Rattle.ml_region.specs.Stored.{page_at, regions_of, IsStored, IsFirstFrom}
+use Rattle.ml_region.specs.inside.Stored.{page_at, regions_of, IsStored, IsFirstFrom}
 use Rattle.ml_region.specs.declared.item.Item.{Item}
-use Rattle.ml_region.proofs.Standing.{keys_length}
-use Rattle.ml_region.proofs.Changing.{owner_inside, owner_rising, owner_few, put_item}
+use Rattle.ml_region.proofs.RegionItems.{keys_length}
+use Rattle.ml_region.proofs.ItemChanges.{owner_inside, owner_rising, owner_few, put_item}
 use Rattle.ml_region.proofs.regions.Regions.place.Goals as goal
 
 pub index-requires : goal.index-requires
@@ -71,7 +71,8 @@ put-requires-clause-few g c =
     let second : c.index_mut.result.now ≡ page_at pages slot = get_or_read pages slot c.index_mut.result.now inside c.index_mut.ensures.value [] in
     let few : length (page_at pages slot) < 31 =
     owner_few entries pages free reserved c.args.item.key.bits slot c.self.invariant c.owner-slot.ensures
-    (λ i o. subst (λ (q : List Region). length (items_at q i) < 31) (sym same) (c.requires.few i (subst (λ (q : List Region). IsOwner (region_prefixes q) c.args.item.key.bits i) same o))) in
+    (λ i o. subst (λ (q : List Region). length (items_at q i) < 31) (sym same)
+    (c.requires.few i (subst (λ (q : List Region). IsOwner (region_prefixes q) c.args.item.key.bits i) same o))) in
     subst (λ xs. length xs < 31) (sym second) few
 
 pub invariant_of-self : goal.invariant_of-self
@@ -87,11 +88,14 @@ invariant_of-self g c =
     let second : c.index_mut.result.now ≡ page_at pages slot = get_or_read pages slot c.index_mut.result.now inside c.index_mut.ensures.value [] in
     let few : length (page_at pages slot) < 31 =
     owner_few entries pages free reserved c.args.item.key.bits slot c.self.invariant c.owner-slot.ensures
-    (λ i o. subst (λ (q : List Region). length (items_at q i) < 31) (sym same) (c.requires.few i (subst (λ (q : List Region). IsOwner (region_prefixes q) c.args.item.key.bits i) same o))) in
-    let apart : IsApart (regions_of entries pages) c.args.item.key.bits = subst (λ (q : List Region). IsApart q c.args.item.key.bits) (sym same) c.requires.apart in
+    (λ i o. subst (λ (q : List Region). length (items_at q i) < 31) (sym same)
+    (c.requires.few i (subst (λ (q : List Region). IsOwner (region_prefixes q) c.args.item.key.bits i) same o))) in
+    let apart : IsApart (regions_of entries pages) c.args.item.key.bits =
+    subst (λ (q : List Region). IsApart q c.args.item.key.bits) (sym same) c.requires.apart in
     let at : IsFirstFrom (keys_of (page_at pages slot)) c.args.item.key.bits c.first_from-j.result =
     subst (λ xs. IsFirstFrom (keys_of xs) c.args.item.key.bits c.first_from-j.result) first c.first_from-j.ensures in
-    let new : c.put.new.self ≡ insert (page_at pages slot) c.first_from-j.result c.args.item = c.put.ensures ∙ ap (λ xs. insert xs c.first_from-j.result c.args.item) second in
+    let new : c.put.new.self ≡ insert (page_at pages slot) c.first_from-j.result c.args.item =
+    c.put.ensures ∙ ap (λ xs. insert xs c.first_from-j.result c.args.item) second in
     let both = put_item entries pages free reserved slot c.first_from-j.result c.args.item c.self.invariant c.owner-slot.ensures at few apart in
     subst (λ xs. IsStored entries (set pages slot xs) free reserved) (sym new) both.0
 
@@ -108,11 +112,14 @@ returns-clause-regions g c =
     let second : c.index_mut.result.now ≡ page_at pages slot = get_or_read pages slot c.index_mut.result.now inside c.index_mut.ensures.value [] in
     let few : length (page_at pages slot) < 31 =
     owner_few entries pages free reserved c.args.item.key.bits slot c.self.invariant c.owner-slot.ensures
-    (λ i o. subst (λ (q : List Region). length (items_at q i) < 31) (sym same) (c.requires.few i (subst (λ (q : List Region). IsOwner (region_prefixes q) c.args.item.key.bits i) same o))) in
-    let apart : IsApart (regions_of entries pages) c.args.item.key.bits = subst (λ (q : List Region). IsApart q c.args.item.key.bits) (sym same) c.requires.apart in
+    (λ i o. subst (λ (q : List Region). length (items_at q i) < 31) (sym same)
+    (c.requires.few i (subst (λ (q : List Region). IsOwner (region_prefixes q) c.args.item.key.bits i) same o))) in
+    let apart : IsApart (regions_of entries pages) c.args.item.key.bits =
+    subst (λ (q : List Region). IsApart q c.args.item.key.bits) (sym same) c.requires.apart in
     let at : IsFirstFrom (keys_of (page_at pages slot)) c.args.item.key.bits c.first_from-j.result =
     subst (λ xs. IsFirstFrom (keys_of xs) c.args.item.key.bits c.first_from-j.result) first c.first_from-j.ensures in
-    let new : c.put.new.self ≡ insert (page_at pages slot) c.first_from-j.result c.args.item = c.put.ensures ∙ ap (λ xs. insert xs c.first_from-j.result c.args.item) second in
+    let new : c.put.new.self ≡ insert (page_at pages slot) c.first_from-j.result c.args.item =
+    c.put.ensures ∙ ap (λ xs. insert xs c.first_from-j.result c.args.item) second in
     let both = put_item entries pages free reserved slot c.first_from-j.result c.args.item c.self.invariant c.owner-slot.ensures at few apart in
     subst (λ (q : List Region). IsPut q c.args.item (regions_of entries (set pages slot c.put.new.self))) same
     (subst (λ xs. IsPut (regions_of entries pages) c.args.item (regions_of entries (set pages slot xs))) (sym new) both.1)

@@ -1,10 +1,10 @@
 use Rattle.std.proofs.Common.{◌≡◌, ◌<◌, List, length, sym, ap, ◌∙◌, arith}
 use Rattle.ml_region.specs.Listing.{Entry}
 use Rattle.ml_region.specs.Regions.{Region, RegionList, region_at}
-use Rattle.ml_region.specs.Stored.{regions_of}
+use Rattle.ml_region.specs.inside.Stored.{regions_of}
 use Rattle.ml_region.specs.declared.item.Item.{Item}
 use Rattle.ml_region.proofs.StoredRegions.{regions_length}
-use Rattle.ml_region.proofs.Found.{prefix_of_entry}
+use Rattle.ml_region.proofs.FoundItems.{prefix_of_entry}
 use Rattle.ml_region.proofs.regions.Regions.prefix.Goals as goal
 
 pub returns-clause-bits : goal.returns-clause-bits

@@ -3,9 +3,9 @@ use Rattle.std.specs.Prelude.{vec_capacity}
 use Rattle.ml_region.specs.Prefixes.{AreRooted}
 use Rattle.ml_region.specs.Listing.{Entry}
 use Rattle.ml_region.specs.Regions.{RegionList, region_prefixes}
-use Rattle.ml_region.specs.Stored.{regions_of}
+use Rattle.ml_region.specs.inside.Stored.{regions_of}
 use Rattle.ml_region.specs.declared.item.Item.{Item}
-use Rattle.ml_region.proofs.Listing.{listing_rooted}
+use Rattle.ml_region.proofs.ListingChanges.{listing_rooted}
 use Rattle.ml_region.proofs.StoredRegions.{listing_of, regions_prefixes}
 use Rattle.ml_region.proofs.regions.Regions.prefixes.Goals as goal
 

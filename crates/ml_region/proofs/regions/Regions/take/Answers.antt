@@ -6,9 +6,9 @@ use Rattle.ml_region.specs.Changes.{IsTaken}
 use Rattle.ml_region.specs.Prefixes.{bits_at, IsRising}
 use Rattle.ml_region.specs.Listing.{Entry}
 use Rattle.ml_region.specs.Regions.{Region, RegionList, HasNoKey, keys_of}
-use Rattle.ml_region.specs.Stored.{page_at, regions_of, IsStored}
+use Rattle.ml_region.specs.inside.Stored.{page_at, regions_of, IsStored}
 use Rattle.ml_region.specs.declared.item.Item.{Item}
-use Rattle.ml_region.proofs.Changing.{owner_inside, owner_rising, owner_lacks, take_item}
+use Rattle.ml_region.proofs.ItemChanges.{owner_inside, owner_rising, owner_lacks, take_item}
 use Rattle.ml_region.proofs.regions.Regions.take.Goals as goal
 
 pub index-requires : goal.index-requires
@@ -71,7 +71,8 @@ invariant_of-self g c =
     let second : c.index_mut.result.now ≡ page_at pages slot = get_or_read pages slot c.index_mut.result.now inside c.index_mut.ensures.value [] in
     let j : ℕ = c.in-Some.j in
     let within : j < length (page_at pages slot) = subst (λ xs. j < length xs) first c.in-Some.ensures.0 in
-    let key : bits_at (keys_of (page_at pages slot)) j ≡ c.args.key.now.bits = subst (λ xs. bits_at (keys_of xs) j ≡ c.args.key.now.bits) first c.in-Some.ensures.1 in
+    let key : bits_at (keys_of (page_at pages slot)) j ≡ c.args.key.now.bits =
+    subst (λ xs. bits_at (keys_of xs) j ≡ c.args.key.now.bits) first c.in-Some.ensures.1 in
     let new : c.take.new.self ≡ remove (page_at pages slot) j = c.take.ensures.rest ∙ ap (λ xs. remove xs j) second in
     let item : c.take.result ≡ get_or (page_at pages slot) j c.take.result = c.take.ensures.item ∙ ap (λ xs. get_or xs j c.take.result) second in
     let both = take_item entries pages free reserved c.args.key.now.bits slot j c.take.result c.self.invariant c.owner-slot.ensures within item key in
@@ -90,7 +91,8 @@ returns-in-Some-clause-regions g c =
     let second : c.index_mut.result.now ≡ page_at pages slot = get_or_read pages slot c.index_mut.result.now inside c.index_mut.ensures.value [] in
     let j : ℕ = c.in-Some.j in
     let within : j < length (page_at pages slot) = subst (λ xs. j < length xs) first c.in-Some.ensures.0 in
-    let key : bits_at (keys_of (page_at pages slot)) j ≡ c.args.key.now.bits = subst (λ xs. bits_at (keys_of xs) j ≡ c.args.key.now.bits) first c.in-Some.ensures.1 in
+    let key : bits_at (keys_of (page_at pages slot)) j ≡ c.args.key.now.bits =
+    subst (λ xs. bits_at (keys_of xs) j ≡ c.args.key.now.bits) first c.in-Some.ensures.1 in
     let new : c.take.new.self ≡ remove (page_at pages slot) j = c.take.ensures.rest ∙ ap (λ xs. remove xs j) second in
     let item : c.take.result ≡ get_or (page_at pages slot) j c.take.result = c.take.ensures.item ∙ ap (λ xs. get_or xs j c.take.result) second in
     let both = take_item entries pages free reserved c.args.key.now.bits slot j c.take.result c.self.invariant c.owner-slot.ensures within item key in

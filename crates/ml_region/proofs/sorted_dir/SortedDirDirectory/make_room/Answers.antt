@@ -1,8 +1,8 @@
 use Rattle.std.proofs.Common.{◌≡◌, ℕ, List, length, sym, ap, ◌∙◌, subst, arith}
 use Rattle.ml_region.specs.Listing.{IsListing}
-use Rattle.ml_region.specs.Kept.{kept_entries, HaveRoom, IsKept}
+use Rattle.ml_region.specs.inside.Kept.{kept_entries, HaveRoom, IsKept}
 use Rattle.ml_region.specs.declared.kept.Kept.{Kept}
-use Rattle.ml_region.proofs.Elements.{entries_length, whole_back}
+use Rattle.ml_region.proofs.SortedElements.{entries_length, whole_back}
 use Rattle.ml_region.proofs.sorted_dir.SortedDirDirectory.make_room.Goals as goal
 
 pub invariant_of-self : goal.invariant_of-self

@@ -2,10 +2,10 @@ use Rattle.std.proofs.Common.{◌≡◌, ℕ, ◌<◌, Bool, List, length, sym, 
 use Rattle.std.proofs.lemmas.List.{take_all}
 use Rattle.ml_region.specs.Prefixes.{IsOwner}
 use Rattle.ml_region.specs.Listing.{Listing, IsSlotOfOwner, prefixes_of, slot_at}
-use Rattle.ml_region.specs.Kept.{kept_entries}
+use Rattle.ml_region.specs.inside.Kept.{kept_entries}
 use Rattle.ml_region.specs.declared.kept.Kept.{Kept}
-use Rattle.ml_region.proofs.Elements.{kept_length, kept_slot}
-use Rattle.ml_region.proofs.Listing.{listing_rooted}
+use Rattle.ml_region.proofs.SortedElements.{kept_length, kept_slot}
+use Rattle.ml_region.proofs.ListingChanges.{listing_rooted}
 use Rattle.ml_region.proofs.sorted_dir.SortedDirDirectory.owner.Goals as goal
 
 pub owner_within-i-requires-clause-rooted : goal.owner_within-i-requires-clause-rooted

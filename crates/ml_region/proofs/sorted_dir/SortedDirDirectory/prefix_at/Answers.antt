@@ -1,8 +1,8 @@
 use Rattle.std.proofs.Common.{◌≡◌, ℕ, ◌<◌, ◌≤◌, List, length, sym, ap, ◌∙◌, subst, arith}
 use Rattle.ml_region.specs.Listing.{Listing, IsListing, prefix_at}
-use Rattle.ml_region.specs.Kept.{kept_entries}
+use Rattle.ml_region.specs.inside.Kept.{kept_entries}
 use Rattle.ml_region.specs.declared.kept.Kept.{Kept}
-use Rattle.ml_region.proofs.Elements.{entries_length, kept_prefix}
+use Rattle.ml_region.proofs.SortedElements.{entries_length, kept_prefix}
 use Rattle.ml_region.proofs.sorted_dir.SortedDirDirectory.prefix_at.Goals as goal
 
 pub returns-then-i-len-clause-prefix : goal.returns-then-i-len-clause-prefix

@@ -1,8 +1,8 @@
 use Rattle.std.proofs.Common.{◌≡◌, ℕ, ◌<◌, List, length, sym, ap, ◌∙◌, subst, arith}
 use Rattle.ml_region.specs.Listing.{Listing, IsPrefixOfSlot, prefix_at, slot_at}
-use Rattle.ml_region.specs.Kept.{kept_entries}
+use Rattle.ml_region.specs.inside.Kept.{kept_entries}
 use Rattle.ml_region.specs.declared.kept.Kept.{Kept}
-use Rattle.ml_region.proofs.Elements.{entries_length, kept_prefix}
+use Rattle.ml_region.proofs.SortedElements.{entries_length, kept_prefix}
 use Rattle.ml_region.proofs.sorted_dir.SortedDirDirectory.prefix_of.Goals as goal
 
 pub returns : goal.returns
@@ -11,7 +11,8 @@ returns c =
     let place : ℕ = c.place_of_slot-i.result in
     let entries : kept_entries items ≡ c.args.self.now.entries = ap (λ (v : Listing). v.entries) c.self.view_is in
     let inside : place < length items = subst (λ xs. place < length xs) c.deref.ensures.value c.place_of_slot-i.ensures.within in
-    let slot : slot_at (kept_entries items) place ≡ c.args.slot = subst (λ xs. slot_at (kept_entries xs) place ≡ c.args.slot) c.deref.ensures.value c.place_of_slot-i.ensures.same in
+    let slot : slot_at (kept_entries items) place ≡ c.args.slot =
+    subst (λ xs. slot_at (kept_entries xs) place ≡ c.args.slot) c.deref.ensures.value c.place_of_slot-i.ensures.same in
     let bits : c.index.result.now.prefix.bits ≡ prefix_at (kept_entries items) place =
     ap (λ (k : Kept). k.prefix.bits) c.index.ensures ∙ sym (kept_prefix items place c.index.result.now inside) in
     let all : IsPrefixOfSlot (kept_entries items) c.args.slot c.index.result.now.prefix.bits = λ i h e.

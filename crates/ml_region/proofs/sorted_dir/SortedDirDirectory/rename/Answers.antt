@@ -2,10 +2,10 @@ use Rattle.std.proofs.Common.{◌≡◌, ℕ, ◌+◌, ◌<◌, ◌≤◌, Bool,
 use Rattle.std.specs.List.{insert, remove}
 use Rattle.ml_region.specs.Prefixes.{AreRooted, IsPlaceFor, IsLastUpTo}
 use Rattle.ml_region.specs.Listing.{Listing, IsNewPrefix, IsNewSlot, IsWithEntry, prefixes_of, slot_at}
-use Rattle.ml_region.specs.Kept.{kept_entries, IsKept}
+use Rattle.ml_region.specs.inside.Kept.{kept_entries, IsKept}
 use Rattle.ml_region.specs.declared.kept.Kept.{Kept}
-use Rattle.ml_region.proofs.Listing.{listing_rooted, new_prefix_remove, new_slot_remove}
-use Rattle.ml_region.proofs.Elements.{entries_length, kept_slot, kept_insert, kept_remove, entries_insert, entries_remove, new_place}
+use Rattle.ml_region.proofs.ListingChanges.{listing_rooted, new_prefix_remove, new_slot_remove}
+use Rattle.ml_region.proofs.SortedElements.{entries_length, kept_slot, kept_insert, kept_remove, entries_insert, entries_remove, new_place}
 use Rattle.ml_region.proofs.sorted_dir.SortedDirDirectory.rename.Goals as goal
 
 pub last_up_to-place-requires-clause-rooted : goal.last_up_to-place-requires-clause-rooted
@@ -26,7 +26,8 @@ invariant_of-self c =
     let bits : List Bool = take c.args.n c.args.from.now.bits in
     let entries : kept_entries items ≡ c.args.self.now.entries = ap (λ (v : Listing). v.entries) c.self.view_is in
     let within : i < length items = omega (arith, entries_length items, ap length entries, c.requires.within) in
-    let last : IsLastUpTo (prefixes_of (kept_entries rest)) bits place = subst (λ xs. IsLastUpTo (prefixes_of (kept_entries xs)) bits place) c.remove-renamed.ensures.items c.last_up_to-place.ensures in
+    let last : IsLastUpTo (prefixes_of (kept_entries rest)) bits place =
+    subst (λ xs. IsLastUpTo (prefixes_of (kept_entries xs)) bits place) c.remove-renamed.ensures.items c.last_up_to-place.ensures in
     let new : IsNewPrefix (kept_entries rest) bits =
     subst (λ es. IsNewPrefix es bits) (sym (entries_remove items i)) (new_prefix_remove (kept_entries items) i bits (omega (arith, entries_length items))
     (subst (λ es. IsNewPrefix es bits) (sym entries) c.requires.prefix)) in
@@ -53,7 +54,8 @@ returns-clause-entries c =
     let bits : List Bool = take c.args.n c.args.from.now.bits in
     let entries : kept_entries items ≡ c.args.self.now.entries = ap (λ (v : Listing). v.entries) c.self.view_is in
     let within : i < length items = omega (arith, entries_length items, ap length entries, c.requires.within) in
-    let last : IsLastUpTo (prefixes_of (kept_entries rest)) bits place = subst (λ xs. IsLastUpTo (prefixes_of (kept_entries xs)) bits place) c.remove-renamed.ensures.items c.last_up_to-place.ensures in
+    let last : IsLastUpTo (prefixes_of (kept_entries rest)) bits place =
+    subst (λ xs. IsLastUpTo (prefixes_of (kept_entries xs)) bits place) c.remove-renamed.ensures.items c.last_up_to-place.ensures in
     let new : IsNewPrefix (kept_entries rest) bits =
     subst (λ es. IsNewPrefix es bits) (sym (entries_remove items i)) (new_prefix_remove (kept_entries items) i bits (omega (arith, entries_length items))
     (subst (λ es. IsNewPrefix es bits) (sym entries) c.requires.prefix)) in
@@ -68,4 +70,5 @@ returns-clause-entries c =
     let whole : IsWithEntry (kept_entries rest) (record { prefix = bits; slot = slot_at (kept_entries items) i }) (kept_entries c.insert.new.self.items) =
     record { place = place + 1; fits = new_place rest bits place last new; same = same } in
     subst (λ es. IsWithEntry (remove es i) (record { prefix = bits; slot = slot_at es i }) (kept_entries c.insert.new.self.items)) entries
-    (subst (λ es. IsWithEntry es (record { prefix = bits; slot = slot_at (kept_entries items) i }) (kept_entries c.insert.new.self.items)) (entries_remove items i) whole)
+    (subst (λ es. IsWithEntry es (record { prefix = bits; slot = slot_at (kept_entries items) i }) (kept_entries c.insert.new.self.items))
+    (entries_remove items i) whole)

@@ -1,6 +1,6 @@
-use Rattle.std.proofs.Common.{◌≡◌, ◌++◌, ◌∷◌, [], None, Some, slice_get, take, ap, sym, ◌∙◌}
+use Rattle.std.proofs.Common.{◌++◌, ◌∷◌, [], take, ap, ◌∙◌}
 use Rattle.ml_search.specs.Program.{place_of}
-use Rattle.ml_search.proofs.Declaring.{others_before, up_to}
+use Rattle.ml_search.proofs.DeclarationsFound.{others_before, up_to}
 use Rattle.ml_search.proofs.decls.Decls.copy_of.Goals as goal
 
 pub add-requires-clause-other : goal.add-requires-clause-other

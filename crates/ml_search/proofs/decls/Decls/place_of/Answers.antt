@@ -1,6 +1,6 @@
 use Rattle.std.proofs.Common.{ap, ◌∙◌}
 use Rattle.ml_search.specs.Program.{place_of}
-use Rattle.ml_search.proofs.Declaring.{place_is}
+use Rattle.ml_search.proofs.DeclarationsFound.{place_is}
 use Rattle.ml_search.proofs.decls.Decls.place_of.Goals as goal
 
 pub returns-clause-same : goal.returns-clause-same

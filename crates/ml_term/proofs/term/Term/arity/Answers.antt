@@ -2,8 +2,8 @@ use Rattle.std.proofs.Common.{ap, sym, ◌∙◌, length}
 use Rattle.ml_term.specs.Keys.{arguments}
 use Rattle.ml_term.specs.Seen.{seen}
 use Rattle.ml_term.specs.Tree.{arity}
-use Rattle.ml_term.proofs.Sizes.{arity_of_trees}
-use Rattle.ml_term.proofs.Views.{seen_compound}
+use Rattle.ml_term.proofs.TermSizes.{arity_of_trees}
+use Rattle.ml_term.proofs.CompoundTrees.{seen_compound}
 use Rattle.ml_term.proofs.term.Term.arity.Goals as goal
 
 pub returns-in-Cmp : goal.returns-in-Cmp

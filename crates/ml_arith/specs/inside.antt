@@ -1,0 +1,3 @@
+pub mod Operators
+pub mod Tasks
+pub mod Work

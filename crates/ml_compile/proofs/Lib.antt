@@ -1,0 +1,10 @@
+pub mod CodeKept
+pub mod TermParts
+pub mod TermsBuilt
+pub mod TermsMatched
+pub mod PairsTested
+pub mod BodiesTaken
+pub mod BodiesSpelled
+pub mod VariablesCounted
+pub mod ClausesSpelled
+pub mod RowsSpelled

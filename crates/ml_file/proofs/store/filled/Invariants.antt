@@ -1,7 +1,0 @@
-use Rattle.std.specs.Vec.Iter.{into_iter_items}
-use Rattle.ml_file.proofs.Filling.{IsUnderway}
-use Rattle.ml_file.proofs.store.filled.Given as goal
-
--- some items are in the files, and the others are left
-abbrev pub invariant-loop-place : goal.invariant-loop-place
-invariant-loop-place l = IsUnderway l.decls l.fn.items.items (into_iter_items l.place-iterator) l.files.items

@@ -1,0 +1,4 @@
+pub mod Layout
+pub mod Equations
+pub mod Rules
+pub mod Walks

@@ -1,5 +1,0 @@
-use Rattle.ml_key.proofs.BitRows.{IsRow}
-use Rattle.ml_key.proofs.rows.row_of.Given as goal
-
-abbrev pub invariant-loop-word : goal.invariant-loop-word
-invariant-loop-word l = IsRow l.words l.place l.word-index l.row

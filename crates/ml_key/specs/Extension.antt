@@ -1,7 +1,0 @@
--- A bit list that grows within its room.
-use Rattle.std.specs.Prelude.{Bool, List, ◌++◌}
-use Rattle.ml_bits.specs.BitList.{BitList}
-
--- a list followed by more bits, with the room that it had
-abbrev pub extended : BitList → List Bool → BitList
-extended list more = record { bits = list.bits ++ more; room = list.room }

@@ -1,5 +1,0 @@
-use Rattle.ml_machine.proofs.Told.{told_after}
-use Rattle.ml_machine.proofs.laws.a_log_tells_of_its_changes.Goals as goal
-
-pub returns : goal.returns
-returns c = told_after

@@ -1,5 +1,0 @@
-use Rattle.ml_machine.proofs.Plain.{plain_lists_lead}
-use Rattle.ml_machine.proofs.laws.plain_lists_lead_to_a_conclusion.Goals as goal
-
-pub returns : goal.returns
-returns c = plain_lists_lead

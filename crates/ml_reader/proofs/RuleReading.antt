@@ -1,0 +1,9 @@
+pub mod FormsByArity
+pub mod DeclarationTerms
+pub mod TermForms
+pub mod DeclarationsInOrder
+pub mod SortedClauses
+pub mod PartFacts
+pub mod OneProgram
+pub mod RulesOrFault
+pub mod OneRulesReading

@@ -1,0 +1,3 @@
+pub mod parser
+pub mod rules
+pub mod script

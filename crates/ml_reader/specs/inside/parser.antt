@@ -1,0 +1,9 @@
+pub mod Parser
+pub mod Exact
+pub mod Frames
+pub mod ContextSeen
+pub mod LimitedSteps
+pub mod LimitsSeen
+pub mod Turns
+pub mod TurnsSeen
+pub mod Rows

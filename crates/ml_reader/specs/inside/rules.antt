@@ -1,0 +1,4 @@
+pub mod FormsSeen
+pub mod DeclarationSteps
+pub mod PartsSeen
+pub mod RulesSteps

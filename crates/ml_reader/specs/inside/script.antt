@@ -1,0 +1,3 @@
+pub mod ScriptItems
+pub mod ScriptSeen
+pub mod ScriptRows

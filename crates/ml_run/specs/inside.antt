@@ -1,0 +1,4 @@
+pub mod StepCauses
+pub mod Seen
+pub mod Entries
+pub mod RunAndPrint

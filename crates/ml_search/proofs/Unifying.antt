@@ -1,0 +1,11 @@
+pub mod BoundChains
+pub mod ShiftedTrees
+pub mod EquationSteps
+pub mod OneBindingMore
+pub mod ArgumentsPushed
+pub mod UnificationTurns
+pub mod TermsResolved
+pub mod TermsRenamedApart
+pub mod TermsBuilt
+pub mod FirstPlaces
+pub mod VariableCounts

@@ -1,0 +1,14 @@
+pub mod Meeting
+pub mod DeclTable
+pub mod Reserved
+pub mod Triangular
+pub mod Unifying
+pub mod RowWords
+pub mod RowsTerms
+pub mod RowsArithmetic
+pub mod RowsControl
+pub mod RowsCatch
+pub mod RowsRelations
+pub mod RowsStored
+pub mod RowsEndings
+pub mod RowsReplay

@@ -1,0 +1,11 @@
+pub mod ListEnds
+pub mod BodyValues
+pub mod Moments
+pub mod Carried
+pub mod CarriedPlainly
+pub mod Below
+pub mod ChoicePoints
+pub mod WaitingLevels
+pub mod TakenApart
+pub mod AnswersKept
+pub mod StacksBegun

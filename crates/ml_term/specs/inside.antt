@@ -1,0 +1,4 @@
+pub mod KeyHeads
+pub mod Rows
+pub mod UnifierRows
+pub mod Reading

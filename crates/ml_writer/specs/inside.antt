@@ -1,0 +1,5 @@
+pub mod Layout
+pub mod PieceText
+pub mod DraftText
+pub mod MetTable
+pub mod Parts

@@ -20,16 +20,10 @@ mod names;
 mod operation;
 pub mod predicate_laws;
 mod program;
-#[cfg(test)]
-mod program_tests;
 mod reserved;
 pub mod rows;
 mod script;
-#[cfg(test)]
-mod tests;
 mod unification;
-#[cfg(test)]
-mod unification_tests;
 
 pub use change::{Change, What};
 pub use clause::Clause;
@@ -40,7 +34,7 @@ pub use goal::Goal;
 pub use goals::Goals;
 pub use last::Last;
 pub use limits::{
-    DEFAULT_INFERENCES, MAX_DECLARATIONS, MAX_GOALS, MAX_INFERENCES, MAX_ITEM_BYTES,
+    DEFAULT_INFERENCES, MAX_CHANGES, MAX_DECLARATIONS, MAX_GOALS, MAX_INFERENCES, MAX_ITEM_BYTES,
     MAX_UNIFIER_LEVELS, limits_of_sessions,
 };
 pub use log::Log;

@@ -1,5 +1,5 @@
 //! Logs and changes, copied with ample memory.
-use crate::{Change, Log, Op, Reply, What};
+use ml_search::{Change, Log, Op, Reply, What};
 use ml_term::Term;
 use std::test::Fail;
 

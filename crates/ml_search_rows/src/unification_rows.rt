@@ -1,5 +1,5 @@
 //! Unification, renaming and replacing with ample memory.
-use crate::{Map, apply, mgu, rename, unifies};
+use ml_search::{Map, apply, mgu, rename, unifies};
 use ml_term::{Args, Name, Term, compare, is_name, is_valid, nodes_up_to};
 use std::alloc::{AllocError, Global};
 use std::cmp::Ordering;

@@ -3,7 +3,7 @@ ghost use Rattle.std.specs.Prelude.{◌≡◌, IfOk, codes};
 ghost use Rattle.ml_term.specs.Seen.{seen};
 ghost use Rattle.ml_term.specs.Tree.{atom};
 
-use crate::{
+use ml_search::{
     Clause, Clauses, Decls, Goal, Goals, Last, Log, MAX_DECLARATIONS, Names, Program, Script,
     is_callable, is_clause_head, is_reserved,
 };

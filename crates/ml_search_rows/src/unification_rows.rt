@@ -104,25 +104,78 @@ fn of_two_variables_the_younger_is_replaced(rt: HostRuntime) -> Result<(), Fail>
     Ok(())
 }
 
-// f(X0,a), f(b,X0); X0, g(X0); f(X0,X0), f(X0,g(X0)); f(X0,X0), f(1,1); f(X0,X0), f(1,2);
-// f(X0,X1), g(X0); 1, 2; a, a.
-fn pair_of(rt: &impl Abort, alloc: Global, row: u8) -> Result<(Term, Term), AllocError> {
-    let x = Term::Var(0);
-    let twice = two(rt, alloc, b"f", Term::Var(0), Term::Var(0))?;
-    let under = one(rt, alloc, b"g", Term::Var(0))?;
+// f(X0,X0).
+fn twice(rt: &impl Abort, alloc: Global) -> Result<Term, AllocError> {
+    two(rt, alloc, b"f", Term::Var(0), Term::Var(0))
+}
+
+// g(X0).
+fn under(rt: &impl Abort, alloc: Global) -> Result<Term, AllocError> {
+    one(rt, alloc, b"g", Term::Var(0))
+}
+
+// f(X0,a).
+fn before_a(rt: &impl Abort, alloc: Global) -> Result<Term, AllocError> {
+    let a = atom(rt, alloc, b"a")?;
+    two(rt, alloc, b"f", Term::Var(0), a)
+}
+
+// f(b,X0).
+fn behind_b(rt: &impl Abort, alloc: Global) -> Result<Term, AllocError> {
+    let b = atom(rt, alloc, b"b")?;
+    two(rt, alloc, b"f", b, Term::Var(0))
+}
+
+// f(X0,g(X0)).
+fn before_under(rt: &impl Abort, alloc: Global) -> Result<Term, AllocError> {
+    let inner = under(rt, alloc)?;
+    two(rt, alloc, b"f", Term::Var(0), inner)
+}
+
+// The first term of a pair: f(X0,a); X0; f(X0,X0), three times; f(X0,X1); 1; a.
+fn left_of(rt: &impl Abort, alloc: Global, row: u8) -> Result<Term, AllocError> {
     match row {
-        0 => Ok((
-            two(rt, alloc, b"f", x, atom(rt, alloc, b"a")?)?,
-            two(rt, alloc, b"f", atom(rt, alloc, b"b")?, Term::Var(0))?,
-        )),
-        1 => Ok((x, under)),
-        2 => Ok((twice, two(rt, alloc, b"f", x, under)?)),
-        3 => Ok((twice, two(rt, alloc, b"f", Term::Int(1), Term::Int(1))?)),
-        4 => Ok((twice, two(rt, alloc, b"f", Term::Int(1), Term::Int(2))?)),
-        5 => Ok((two(rt, alloc, b"f", x, Term::Var(1))?, under)),
-        6 => Ok((Term::Int(1), Term::Int(2))),
-        _ => Ok((atom(rt, alloc, b"a")?, atom(rt, alloc, b"a")?)),
+        0 => before_a(rt, alloc),
+        1 => Ok(Term::Var(0)),
+        2..=4 => twice(rt, alloc),
+        5 => two(rt, alloc, b"f", Term::Var(0), Term::Var(1)),
+        6 => Ok(Term::Int(1)),
+        7.. => atom(rt, alloc, b"a"),
     }
+}
+
+// The second term of a pair: f(b,X0); g(X0); f(X0,g(X0)); f(1,1); f(1,2); g(X0); 2; a.
+fn right_of(rt: &impl Abort, alloc: Global, row: u8) -> Result<Term, AllocError> {
+    match row {
+        0 => behind_b(rt, alloc),
+        1 => under(rt, alloc),
+        2 => before_under(rt, alloc),
+        3 => two(rt, alloc, b"f", Term::Int(1), Term::Int(1)),
+        4 => two(rt, alloc, b"f", Term::Int(1), Term::Int(2)),
+        5 => under(rt, alloc),
+        6 => Ok(Term::Int(2)),
+        7.. => atom(rt, alloc, b"a"),
+    }
+}
+
+// Whether both orders of a pair unify where the second term is renamed apart, and whether its
+// unifier is as wanted.
+fn is_as_wanted(
+    rt: &impl Abort,
+    alloc: Global,
+    row: u8,
+    count: Option<usize>,
+    apart: bool,
+) -> Result<bool, AllocError> {
+    let a = left_of(rt, alloc, row)?;
+    let b = right_of(rt, alloc, row)?;
+    let forwards = meets(rt, alloc, &a, &b)?;
+    let backwards = meets(rt, alloc, &b, &a)?;
+    let unified = match count {
+        Some(count) => is_unified(rt, alloc, &a, &b, count)?,
+        None => unified(rt, alloc, &a, &b)?.is_none(),
+    };
+    Ok(forwards == apart && backwards == apart && unified)
 }
 
 #[test]
@@ -141,17 +194,7 @@ fn a_head_is_renamed_apart_from_a_pattern(rt: HostRuntime) -> Result<(), Fail> {
         (7, Some(0), true),
     ];
     for (row, count, apart) in rows {
-        let (a, b) = pair_of(&rt, alloc, row)?;
-        assert_eq!(rt; meets(&rt, alloc, &a, &b)?, apart, "row {row}");
-        assert_eq!(rt;
-            meets(&rt, alloc, &b, &a)?,
-            apart,
-            "row {row} from the right"
-        );
-        match count {
-            Some(count) => assert!(rt; is_unified(&rt, alloc, &a, &b, count)?, "row {row}"),
-            None => assert!(rt; unified(&rt, alloc, &a, &b)?.is_none(), "row {row}"),
-        }
+        assert!(rt; is_as_wanted(&rt, alloc, row, count, apart)?, "row {row}");
     }
     Ok(())
 }

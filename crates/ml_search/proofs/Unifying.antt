@@ -1,4 +1,6 @@
 pub mod BoundChains
+pub mod BindingsFound
+pub mod VariablesWalked
 pub mod ShiftedTrees
 pub mod EquationSteps
 pub mod OneBindingMore
@@ -8,4 +10,5 @@ pub mod TermsResolved
 pub mod TermsRenamedApart
 pub mod TermsBuilt
 pub mod FirstPlaces
+pub mod KeysFound
 pub mod VariableCounts

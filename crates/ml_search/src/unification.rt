@@ -1,6 +1,7 @@
 //! The unifier of two terms, and whether there is one. In reading order: pairs of terms that are to
-//! be made equal, bindings, what is done with one equation, the loop over all of them, the terms of
-//! the map that bindings stand for, and the map, with what it makes of other terms.
+//! be made equal, bindings, whether a variable stands in a term, what is done with one equation, the
+//! loop over all of them, the terms of the map that bindings stand for, and the map, with what it
+//! makes of other terms.
 ghost use Rattle.std.specs.Prelude.{◌≡◌, ◌↔◌, IsTrue, IfOk};
 ghost use Rattle.std.specs.Option.{is_some, option_map};
 ghost use Rattle.ml_search.specs.MapSeen.{map_seen};
@@ -14,6 +15,7 @@ pub(crate) mod apply;
 mod bindings;
 mod equation;
 pub(crate) mod map;
+mod occurs;
 mod pair;
 pub(crate) mod rename;
 mod resolve;
@@ -39,12 +41,13 @@ pub fn mgu(alloc: Global, a: &Term, b: &Term) -> Result<Option<Map>, AllocError>
     let right = Shifted { term: b, base: 0 };
     match solve(alloc, left, right)? {
         None => Ok(None),
-        Some(bindings) => Ok(Some(map_from(alloc, bindings.as_slice())?)),
+        Some(bindings) => Ok(Some(map_from(alloc, &bindings)?)),
     }
 }
 
 /// Whether a pattern unifies with a head whose variables are renamed apart from the pattern's. It
-/// copies no term: it takes memory for the bindings and for the pairs that are left.
+/// copies no term: it takes memory for the bindings, for the pairs that are left, and for the
+/// variables that an occurs check meets.
 pub fn unifies(alloc: Global, pattern: &Term, head: &Term) -> Result<bool, AllocError>
     requires pattern { IsTrue (is_valid (seen pattern.now)) }
     requires head { IsTrue (is_valid (seen head.now)) }

@@ -1,5 +1,5 @@
 -- What is to be done with two terms, by their kinds.
-use Rattle.std.specs.Prelude.{◌≡◌, ◌≢◌, ℕ, ◌+◌, ◌<◌, ◌==◌, nat_lt, Bool, true, false, ◌&&◌, cond, List, [], ◌∷◌, map, length}
+use Rattle.std.specs.Prelude.{◌≡◌, ◌≢◌, ℕ, ◌+◌, ◌<◌, ◌==◌, nat_lt, Bool, true, false, ◌&&◌, cond, List, [], ◌∷◌, map, length, None}
 use Rattle.std.specs.List.{zip}
 use Rattle.std.specs.Str.{bytes_eq}
 use Rattle.std.proofs.Common.{refl, sym, ap, subst, ◌∙◌, arith}
@@ -16,6 +16,7 @@ use Rattle.ml_search.specs.declared.unification.pair.Shifted.{Shifted}
 use Rattle.ml_search.specs.declared.unification.pair.Arguments.{Arguments}
 use Rattle.ml_search.specs.declared.unification.pair.Rule.{Rule}
 use Rattle.ml_search.specs.declared.unification.pair.Rule.TheVariants.{Dropped, Bound, Split, Clash}
+use Rattle.ml_search.specs.MapSeen.{bound_term}
 use Rattle.ml_search.specs.inside.Triangular.{IsFree, IsTriangular, is_older, map_of}
 use Rattle.ml_search.specs.inside.Unifying.{Binds, Decides, IsPlain, IsStep, arguments_from, binding_step, tree_of, trees_from, trees_under}
 use Rattle.ml_search.proofs.Unifying.BoundChains.{stands_for_itself}
@@ -49,11 +50,11 @@ rule_of : (m : Map) (rule : Rule) (s s' : Step) → s ≡ s' → IsStep m rule s
 rule_of m rule s s' e h = subst (IsStep m rule) e h
 
 -- a variable that is bound to a term in which it doesn't stand
-pub bound_plain : (bs : Map) (n : ℕ) (to : Shifted) → IsPlain (tree_of to) → occurs n (apply (map_of bs) (tree_of to)) ≡ false →
+pub bound_plain : (bs : Map) (n : ℕ) (to : Shifted) → IsPlain (tree_of to) → bound_term bs n ≡ None → occurs n (apply (map_of bs) (tree_of to)) ≡ false →
     Binds bs (Bound (record { variable = n; to = to })) n (tree_of to)
-bound_plain bs n to plain out = record {
+bound_plain bs n to plain free out = record {
   is = ap (λ b. cond b clash (eliminate n (apply (map_of bs) (tree_of to)))) out;
-  may = (plain_is_older n (tree_of to) plain, out);
+  may = (plain_is_older n (tree_of to) plain, out, free);
 }
 
 itself : (bs : Map) (n : ℕ) (t : Tree) → IsTriangular bs → t ≡ variable n → IsFree bs t → apply (map_of bs) t ≡ variable n
@@ -93,7 +94,7 @@ module _ (bs : Map) (left right : Shifted) (m n : ℕ) (h : IsTriangular bs) (p 
         is =
             both ∙ ap (λ b. cond b delete (cond (nat_lt m n) (eliminate n (variable m)) (eliminate m (variable n)))) (ne_eqb m n d)
             ∙ ap (λ b. cond b (eliminate n (variable m)) (eliminate m (variable n))) (lt-ltb m n lt) ∙ ap (eliminate n) (sym it);
-        may = (ap (is_older n) p ∙ lt-ltb m n lt, ap (occurs n) it ∙ other (ne_eqb m n d));
+        may = (ap (is_older n) p ∙ lt-ltb m n lt, ap (occurs n) it ∙ other (ne_eqb m n d), subst (IsFree bs) q g);
       }
     where
       other : (m == n) ≡ false → occurs n (variable m) ≡ false
@@ -106,7 +107,7 @@ module _ (bs : Map) (left right : Shifted) (m n : ℕ) (h : IsTriangular bs) (p 
         is =
             both ∙ ap (λ b. cond b delete (cond (nat_lt m n) (eliminate n (variable m)) (eliminate m (variable n)))) (ne_eqb m n d)
             ∙ ap (λ b. cond b (eliminate n (variable m)) (eliminate m (variable n))) (le-ltb m n (omega arith)) ∙ ap (eliminate m) (sym it);
-        may = (ap (is_older m) q ∙ lt-ltb n m lt, ap (occurs m) it ∙ other (ne_eqb n m (λ e. d (sym e))));
+        may = (ap (is_older m) q ∙ lt-ltb n m lt, ap (occurs m) it ∙ other (ne_eqb n m (λ e. d (sym e))), subst (IsFree bs) p f);
       }
     where
       other : (n == m) ≡ false → occurs m (variable n) ≡ false

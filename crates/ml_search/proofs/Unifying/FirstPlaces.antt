@@ -18,7 +18,7 @@ met_after-append met [] ns = refl
 met_after-append met (m ∷ ms) ns = met_after-append (cond (has m met) met (met ++ m ∷ [])) ms ns
 
 -- the place of a number tells whether it is there
-no_place : (met : List ℕ) (n : ℕ) → has n met ≡ false → place_in met n ≡ length met
+pub no_place : (met : List ℕ) (n : ℕ) → has n met ≡ false → place_in met n ≡ length met
 no_place [] n h = refl
 no_place (m ∷ met) n h = elim (eqb_tells m n) [
   | inl q ↦ absurd (cc (found q.0 h))
@@ -46,7 +46,7 @@ is_known met n d = by (has n met) refl
     by false h = absurd (d (no_place met n h))
 
 -- a list without the numbers of another
-abbrev left_out : List ℕ → List ℕ → List ℕ
+abbrev pub left_out : List ℕ → List ℕ → List ℕ
 left_out met [] = []
 left_out met (n ∷ ns) = cond (has n met) (left_out met ns) (n ∷ left_out met ns)
 
@@ -78,7 +78,7 @@ left_out_one_more met n (m ∷ ns) = elim (eqb_tells m n) [
         either true = refl
         either false = refl
 
-met_then_others : (met ns : List ℕ) → variables_met met ns ≡ met ++ left_out met (firsts ns)
+pub met_then_others : (met ns : List ℕ) → variables_met met ns ≡ met ++ left_out met (firsts ns)
 met_then_others met [] = sym (append-nil met)
 met_then_others met (n ∷ ns) = elim (cases_Bool (has n met)) [
   | inl h ↦ rw (h, left_out_known met n (firsts ns) h) (met_then_others met ns)

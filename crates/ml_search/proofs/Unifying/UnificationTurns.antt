@@ -8,7 +8,6 @@ use Rattle.ml_term.specs.Unifiers.{equations_under}
 use Rattle.ml_term.proofs.UnificationEnds.{solved_goes, solved_over, turns, turns_fall}
 use Rattle.ml_term.proofs.UnificationRules.{solved_none_left}
 use Rattle.ml_term.proofs.MapComposition.{under_empty}
-use Rattle.ml_search.specs.declared.unification.pair.Binding.{Binding}
 use Rattle.ml_search.specs.declared.unification.pair.Pair.{Pair}
 use Rattle.ml_search.specs.declared.unification.pair.Shifted.{Shifted}
 use Rattle.ml_search.specs.inside.Triangular.{IsTriangular, map_of}
@@ -16,13 +15,13 @@ use Rattle.ml_search.specs.inside.Unifying.{are_sound_pairs, bindings_of, equati
 use Rattle.ml_search.proofs.Unifying.OneBindingMore.{last_first}
 
 -- what is left to solve, under the map so far
-abbrev pub to_solve : List Binding → List Equation → Option Map
+abbrev pub to_solve : List (ℕ × Shifted) → List Equation → Option Map
 to_solve bs es = solve_equations (equations_under (map_of (bindings_of bs)) es) (map_of (bindings_of bs))
 
 abbrev pub led_to : Bool → UnifierState → Next UnifierState (Option Map)
 led_to goes_on s = cond goes_on (now (inr s)) (now (inl None))
 
-pub begins : (l r : Shifted) (p : Pair) (bs : List Binding) (ps : List Pair) → bs ≡ [] → ps ≡ p ∷ [] → equation_of p ≡ (tree_of l, tree_of r) →
+pub begins : (l r : Shifted) (p : Pair) (bs : List (ℕ × Shifted)) (ps : List Pair) → bs ≡ [] → ps ≡ p ∷ [] → equation_of p ≡ (tree_of l, tree_of r) →
     to_solve bs (equations_of ps) ≡ unifier (tree_of l) (tree_of r)
 unfolding map_of
 begins l r p bs ps none one is = rw (none, one) (ap (λ e. solve_equations e []) (under_empty (equation_of p ∷ [])) ∙ ap (λ e. solve_equations (e ∷ []) []) is)
@@ -31,7 +30,7 @@ pub no_bindings : IsTriangular (bindings_of [])
 unfolding map_of
 no_bindings = record { resolved = refl; older = refl }
 
-module _ (bs : List Binding) (ps ps' : List Pair) (p : Pair) (more : ps ≡ ps' ++ p ∷ []) where
+module _ (bs : List (ℕ × Shifted)) (ps ps' : List Pair) (p : Pair) (more : ps ≡ ps' ++ p ∷ []) where
   first : equations_of ps ≡ equation_of p ∷ equations_of ps'
   first = ap equations_of more ∙ last_first [] ps' p
 
@@ -42,7 +41,7 @@ module _ (bs : List Binding) (ps ps' : List Pair) (p : Pair) (more : ps ≡ ps' 
       ∙ solved_over (equations_under (map_of (bindings_of bs)) (equation_of p ∷ equations_of ps')) (map_of (bindings_of bs)) None
       (turned ∙ ap (λ b. led_to b s) stopped)
 
-  module _ (goes_on : Bool) (bs' : List Binding) (qs : List Pair) (yes : goes_on ≡ true)
+  module _ (goes_on : Bool) (bs' : List (ℕ × Shifted)) (qs : List Pair) (yes : goes_on ≡ true)
       (turned : turn (state_of bs (equation_of p ∷ equations_of ps')) ≡ led_to goes_on (state_of bs' (equations_of qs))) where
     went : turn (state_of bs (equation_of p ∷ equations_of ps')) ≡ now (inr (state_of bs' (equations_of qs)))
     went = turned ∙ ap (λ b. led_to b (state_of bs' (equations_of qs))) yes
@@ -59,7 +58,7 @@ module _ (bs : List Binding) (ps ps' : List Pair) (p : Pair) (more : ps ≡ ps' 
         ap (λ es. turns (state_of bs es)) first in rw e (turns_fall (state_of bs (equation_of p ∷ equations_of ps')) (state_of bs' (equations_of qs)) went)
 
 -- nothing is left
-pub done : (bs : List Binding) (ps : List Pair) → ps ≡ [] → to_solve bs (equations_of ps) ≡ Some (map_of (bindings_of bs))
+pub done : (bs : List (ℕ × Shifted)) (ps : List Pair) → ps ≡ [] → to_solve bs (equations_of ps) ≡ Some (map_of (bindings_of bs))
 done bs ps none = ap (λ xs. to_solve bs (equations_of xs)) none ∙ solved_none_left (map_of (bindings_of bs))
 
 -- the pair that was taken, and the others, are sound where all were

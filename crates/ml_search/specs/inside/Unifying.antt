@@ -1,7 +1,7 @@
 -- What the code of unification holds: terms whose variables are counted from a base, pairs of them
 -- on a stack, and bindings. No public clause cites this module.
 use Rattle.std.specs.Prelude.{◌≡◌, ℕ, ◌+◌, ◌^◌, ◌==◌, nat_lt, nat_le, Bool, true, false}
-use Rattle.std.specs.Prelude.{if◌then◌else◌, ◌&&◌, IsTrue, List, [], ◌∷◌, map, length}
+use Rattle.std.specs.Prelude.{if◌then◌else◌, ◌&&◌, IsTrue, List, [], ◌∷◌, map, length, None}
 use Rattle.std.specs.List.{list_all, zip}
 use Rattle.ml_term.specs.Tree.{Tree, Trees, variable, integer, atom, compound}
 use Rattle.ml_term.specs.Tree.{substitute_in, trees_of, occurs}
@@ -13,11 +13,11 @@ use Rattle.ml_term.specs.Unifiers.{equations_under}
 use Rattle.ml_term.specs.declared.term.Term.{Term}
 use Rattle.ml_search.specs.declared.unification.pair.Shifted.{Shifted}
 use Rattle.ml_search.specs.declared.unification.pair.Pair.{Pair}
-use Rattle.ml_search.specs.declared.unification.pair.Binding.{Binding}
 use Rattle.ml_search.specs.declared.unification.pair.Arguments.{Arguments}
 use Rattle.ml_search.specs.declared.unification.pair.Rule.{Rule}
 use Rattle.ml_search.specs.declared.unification.pair.Rule.TheVariants.{Dropped, Bound, Split, Clash}
 use Rattle.ml_search.specs.Actions.{shift_variables}
+use Rattle.ml_search.specs.MapSeen.{bound_term}
 use Rattle.ml_search.specs.inside.Triangular.{is_older, map_of}
 
 -- the tree of a term whose variables are counted from a base
@@ -50,11 +50,11 @@ abbrev pub equations_of : List Pair → List Equation
 equations_of ps = stack_equations [] ps
 
 -- the bindings, the latest last
-abbrev pub bindings_of : List Binding → Map
-bindings_of bs = map (λ b. (b.variable, tree_of b.to)) bs
+abbrev pub bindings_of : List (ℕ × Shifted) → Map
+bindings_of bs = map (λ b. (b.0, tree_of b.1)) bs
 
 -- the state of unification with these bindings and pairs
-abbrev pub state_of : List Binding → List Equation → UnifierState
+abbrev pub state_of : List (ℕ × Shifted) → List Equation → UnifierState
 state_of bs es =
     record { left = equations_under (map_of (bindings_of bs)) es; map = map_of (bindings_of bs) }
 
@@ -71,9 +71,8 @@ abbrev pub are_sound_pairs : ℕ → List Pair → Bool
 are_sound_pairs most ps = list_all (λ p. is_sound most p.left && is_sound most p.right) ps
 
 -- the same of bindings, whose variables have numbers in range
-abbrev pub are_sound_bindings : ℕ → List Binding → Bool
-are_sound_bindings most bs =
-    list_all (λ b. nat_lt b.variable (most + 2 ^ 32) && is_sound most b.to) bs
+abbrev pub are_sound_bindings : ℕ → List (ℕ × Shifted) → Bool
+are_sound_bindings most bs = list_all (λ b. nat_lt b.0 (most + 2 ^ 32) && is_sound most b.1) bs
 
 -- a rule that says what is done with two terms is the definition's
 abbrev pub IsStep : Map → Rule → Step → Type 0
@@ -85,15 +84,16 @@ IsStep m (Split ts us) s =
     (equations_under m (zip (trees_from ts.base ts.terms.now) (trees_from us.base us.terms.now)))
 IsStep m Clash s = s ≡ clash
 
--- a variable is bound only to a term in which it doesn't stand, and to an older one if to a
+-- a variable is bound only once, to a term in which it doesn't stand, and to an older one if to a
 -- variable
 abbrev pub MayBeBound : Map → Rule → Type 0
-MayBeBound m Dropped = Unit {0}
-MayBeBound m (Bound b) =
+MayBeBound bs Dropped = Unit {0}
+MayBeBound bs (Bound b) =
     IsTrue (is_older b.variable (tree_of b.to))
-    × (occurs b.variable (apply m (tree_of b.to)) ≡ false)
-MayBeBound m (Split ts us) = Unit {0}
-MayBeBound m Clash = Unit {0}
+    × (occurs b.variable (apply (map_of bs) (tree_of b.to)) ≡ false)
+    × (bound_term bs b.variable ≡ None)
+MayBeBound bs (Split ts us) = Unit {0}
+MayBeBound bs Clash = Unit {0}
 
 -- what a rule leads to is sound
 abbrev pub is_sound_rule : ℕ → Rule → Bool
@@ -107,7 +107,7 @@ is_sound_rule most Clash = true
 -- what is to be done with two terms under bindings
 pub record Decides (bs : Map) (rule : Rule) (t u : Tree) : Type 0 where
   pub is : IsStep (map_of bs) rule (step (apply (map_of bs) t) (apply (map_of bs) u))
-  pub may : MayBeBound (map_of bs) rule
+  pub may : MayBeBound bs rule
 
 -- whether a term is no variable
 abbrev pub IsPlain : Tree → Type 0
@@ -123,4 +123,4 @@ binding_step n t = if occurs n t then clash else eliminate n t
 -- what is to be done with a variable and a term under bindings
 pub record Binds (bs : Map) (rule : Rule) (n : ℕ) (t : Tree) : Type 0 where
   pub is : IsStep (map_of bs) rule (binding_step n (apply (map_of bs) t))
-  pub may : MayBeBound (map_of bs) rule
+  pub may : MayBeBound bs rule

@@ -7,32 +7,29 @@ ghost use Rattle.ml_term.specs.Tree.{firsts, has, place_in, rename, substitute, 
 ghost use Rattle.ml_term.specs.Tree.{trees_of, variable, variables, variables_of, width};
 ghost use Rattle.ml_term.specs.Valid.{are_valid, is_valid};
 
+use indexmap::IndexSet;
 use ml_term::{Args, Term};
 use std::alloc::{AllocError, Global};
 
 // The place of a number among some, from 0, and their count where it isn't there.
-fn place_of(numbers: &[u32], n: u32) -> usize
-    ensures { result ≡ place_in numbers.now n }
+fn place_of(numbers: &IndexSet<u32>, n: u32) -> usize
+    ensures { result ≡ place_in numbers.now.keys n }
 {
-    for (i, number) in numbers.iter().enumerate() {
-        if *number == n {
-            return i;
-        }
+    match numbers.get_index_of(&n) {
+        Some(i) => i,
+        None => numbers.len(),
     }
-    numbers.len()
 }
 
 // Puts the variables of a term that weren't met yet behind those that were, in the order of their
 // first places.
 #[cycle(meet)]
-fn meet(met: &mut Vec<u32>, t: &Term) -> Result<(), AllocError>
-    ensures { OnOk result (met.new.items ≡ variables_met met.old.items (variables (seen t.now))) }
+fn meet(met: &mut IndexSet<u32>, t: &Term) -> Result<(), AllocError>
+    ensures { OnOk result (met.new.keys ≡ variables_met met.old.keys (variables (seen t.now))) }
 {
     match t {
         Term::Var(n) => {
-            if place_of(met.as_slice(), *n) == met.len() {
-                met.push(*n)?;
-            }
+            met.insert(*n)?;
             Ok(())
         }
         Term::Int(_) => Ok(()),
@@ -43,9 +40,9 @@ fn meet(met: &mut Vec<u32>, t: &Term) -> Result<(), AllocError>
 
 // The same of some terms.
 #[cycle(meet)]
-fn meet_all(met: &mut Vec<u32>, ts: &[Term]) -> Result<(), AllocError>
+fn meet_all(met: &mut IndexSet<u32>, ts: &[Term]) -> Result<(), AllocError>
     ensures { OnOk result
-        (met.new.items ≡ variables_met met.old.items (variables_of (trees_of (all_seen ts.now)))) }
+        (met.new.keys ≡ variables_met met.old.keys (variables_of (trees_of (all_seen ts.now)))) }
 {
     for t in ts {
         meet(met, t)?;
@@ -55,12 +52,12 @@ fn meet_all(met: &mut Vec<u32>, ts: &[Term]) -> Result<(), AllocError>
 
 // A term with a new variable, by its place, in the place of each of some.
 #[cycle(renumber)]
-fn renumber(alloc: Global, met: &[u32], first: u32, t: &Term) -> Result<Term, AllocError>
+fn renumber(alloc: Global, met: &IndexSet<u32>, first: u32, t: &Term) -> Result<Term, AllocError>
     requires valid { IsTrue (is_valid (seen t.now)) }
-    requires known { IsTrue (list_all (λ n. has n met.now) (variables (seen t.now))) }
-    requires room { first + length met.now ≤ 2 ^ 32 }
+    requires known { IsTrue (list_all (λ n. has n met.now.keys) (variables (seen t.now))) }
+    requires room { first + length met.now.keys ≤ 2 ^ 32 }
     ensures same { IfOk result
-        (λ u. seen u ≡ substitute (λ n. variable (first + place_in met.now n)) (seen t.now)) }
+        (λ u. seen u ≡ substitute (λ n. variable (first + place_in met.now.keys n)) (seen t.now)) }
     ensures valid { IfOk result (λ u. IsTrue (is_valid (seen u))) }
 {
     match t {
@@ -79,16 +76,16 @@ fn renumber(alloc: Global, met: &[u32], first: u32, t: &Term) -> Result<Term, Al
 #[cycle(renumber)]
 fn renumber_all(
     alloc: Global,
-    met: &[u32],
+    met: &IndexSet<u32>,
     first: u32,
     ts: &[Term],
 ) -> Result<Vec<Term>, AllocError>
     requires valid { IsTrue (are_valid (trees_of (all_seen ts.now))) }
     requires known { IsTrue
-        (list_all (λ n. has n met.now) (variables_of (trees_of (all_seen ts.now)))) }
-    requires room { first + length met.now ≤ 2 ^ 32 }
+        (list_all (λ n. has n met.now.keys) (variables_of (trees_of (all_seen ts.now)))) }
+    requires room { first + length met.now.keys ≤ 2 ^ 32 }
     ensures same { IfOk result (λ us. trees_of (all_seen us.items) ≡
-        substitute_in (λ n. variable (first + place_in met.now n)) (trees_of (all_seen ts.now))) }
+        substitute_in (λ n. variable (first + place_in met.now.keys n)) (trees_of (all_seen ts.now))) }
     ensures valid { IfOk result (λ us. IsTrue (are_valid (trees_of (all_seen us.items)))) }
     ensures count { IfOk result (λ us. length us.items ≡ length ts.now) }
 {
@@ -106,7 +103,7 @@ pub fn rename(alloc: Global, t: &Term, first: u32) -> Result<Term, AllocError>
     ensures same { IfOk result (λ u. seen u ≡ rename first (seen t.now)) }
     ensures valid { IfOk result (λ u. IsTrue (is_valid (seen u))) }
 {
-    let mut met = Vec::new(alloc);
+    let mut met = IndexSet::new(alloc);
     meet(&mut met, t)?;
-    renumber(alloc, met.as_slice(), first, t)
+    renumber(alloc, &met, first, t)
 }

@@ -10,9 +10,9 @@ ghost use Rattle.ml_term.specs.Unify.{apply};
 ghost use Rattle.ml_term.specs.Valid.{are_valid, is_valid};
 
 use crate::limits::MAX_UNIFIER_LEVELS;
-use crate::unification::bindings::end_of;
+use crate::unification::bindings::{Bindings, binding_at, end_of};
 use crate::unification::map::Map;
-use crate::unification::pair::{Binding, Shifted};
+use crate::unification::pair::Shifted;
 use ml_term::{Args, Term};
 use std::alloc::{AllocError, Global};
 
@@ -21,15 +21,15 @@ use std::alloc::{AllocError, Global};
 #[cycle(resolve)]
 fn resolve<'a>(
     alloc: Global,
-    bindings: &[Binding<'a>],
+    bindings: &Bindings<'a>,
     levels: usize,
     at: Shifted<'a>,
 ) -> Result<Term, AllocError>
-    requires triangular { IsTriangular (bindings_of bindings.now) }
-    requires sound { IsTrue (are_sound_bindings 0 bindings.now) }
+    requires triangular { IsTriangular (bindings_of bindings.now.entries) }
+    requires sound { IsTrue (are_sound_bindings 0 bindings.now.entries) }
     requires at { IsTrue (is_sound 0 at) }
     ensures same { IfOk result
-        (λ t. seen t ≡ apply (map_of (bindings_of bindings.now)) (tree_of at.entry)) }
+        (λ t. seen t ≡ apply (map_of (bindings_of bindings.now.entries)) (tree_of at.entry)) }
     ensures valid { IfOk result (λ t. IsTrue (is_valid (seen t))) }
 {
     if levels == 0 {
@@ -52,16 +52,16 @@ fn resolve<'a>(
 #[cycle(resolve)]
 fn resolve_all<'a>(
     alloc: Global,
-    bindings: &[Binding<'a>],
+    bindings: &Bindings<'a>,
     levels: usize,
     ts: &'a [Term],
 ) -> Result<Vec<Term>, AllocError>
-    requires triangular { IsTriangular (bindings_of bindings.now) }
-    requires sound { IsTrue (are_sound_bindings 0 bindings.now) }
+    requires triangular { IsTriangular (bindings_of bindings.now.entries) }
+    requires sound { IsTrue (are_sound_bindings 0 bindings.now.entries) }
     requires valid { IsTrue (are_valid (trees_of (all_seen ts.now))) }
     ensures same { IfOk result
         (λ us. trees_of (all_seen us.items)
-        ≡ trees_under (map_of (bindings_of bindings.now)) 0 ts.now) }
+        ≡ trees_under (map_of (bindings_of bindings.now.entries)) 0 ts.now) }
     ensures valid { IfOk result (λ us. IsTrue (are_valid (trees_of (all_seen us.items)))) }
     ensures count { IfOk result (λ us. length us.items ≡ length ts.now) }
 {
@@ -74,13 +74,14 @@ fn resolve_all<'a>(
 }
 
 // The map that bindings stand for, with its terms built.
-pub(crate) fn map_from<'a>(alloc: Global, bindings: &[Binding<'a>]) -> Result<Map, AllocError>
-    requires triangular { IsTriangular (bindings_of bindings.now) }
-    requires sound { IsTrue (are_sound_bindings 0 bindings.now) }
-    ensures { IfOk result (λ m. map_seen m ≡ map_of (bindings_of bindings.now)) }
+pub(crate) fn map_from<'a>(alloc: Global, bindings: &Bindings<'a>) -> Result<Map, AllocError>
+    requires triangular { IsTriangular (bindings_of bindings.now.entries) }
+    requires sound { IsTrue (are_sound_bindings 0 bindings.now.entries) }
+    ensures { IfOk result (λ m. map_seen m ≡ map_of (bindings_of bindings.now.entries)) }
 {
     let mut pairs = Vec::new(alloc);
-    for binding in bindings {
+    for i in 0..bindings.len() {
+        let binding = binding_at(bindings, i);
         let term = resolve(alloc, bindings, MAX_UNIFIER_LEVELS, binding.to)?;
         pairs.push((binding.variable as u32, term))?;
     }

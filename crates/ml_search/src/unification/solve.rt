@@ -12,9 +12,10 @@ ghost use Rattle.ml_search.specs.inside.Unifying.{trees_from};
 ghost use Rattle.ml_term.specs.Runs.{now};
 ghost use Rattle.ml_term.specs.Unify.{turn, unifier};
 
-use crate::unification::bindings::{MAX_VARIABLE_BASE, end_of};
+use crate::unification::bindings::{Bindings, MAX_VARIABLE_BASE, end_of};
 use crate::unification::equation::rule;
-use crate::unification::pair::{Arguments, Binding, Pair, Rule, Shifted};
+use crate::unification::pair::{Arguments, Pair, Rule, Shifted};
+use indexmap::IndexMap;
 use std::alloc::{AllocError, Global};
 
 // The pair of the arguments at a place of two terms.
@@ -68,36 +69,37 @@ fn push_arguments<'a>(
 // One turn: what is done with the pair that was taken from the stack. False where its terms can't
 // be made equal.
 fn turn<'a>(
-    bindings: &mut Vec<Binding<'a>>,
+    alloc: Global,
+    bindings: &mut Bindings<'a>,
     pairs: &mut Vec<Pair<'a>>,
     pair: Pair<'a>,
 ) -> Result<bool, AllocError>
-    requires triangular { IsTriangular (bindings_of bindings.old.items) }
-    requires bindings { IsTrue (are_sound_bindings MAX_VARIABLE_BASE bindings.old.items) }
+    requires triangular { IsTriangular (bindings_of bindings.old.entries) }
+    requires bindings { IsTrue (are_sound_bindings MAX_VARIABLE_BASE bindings.old.entries) }
     requires left { IsTrue (is_sound MAX_VARIABLE_BASE pair.left) }
     requires right { IsTrue (is_sound MAX_VARIABLE_BASE pair.right) }
     ensures turned { IfOk result
         (λ goes_on. turn
-        (state_of bindings.old.items (equation_of pair.entry ∷ equations_of pairs.old.items)) ≡
-        (if goes_on then now (inr (state_of bindings.new.items (equations_of pairs.new.items)))
+        (state_of bindings.old.entries (equation_of pair.entry ∷ equations_of pairs.old.items)) ≡
+        (if goes_on then now (inr (state_of bindings.new.entries (equations_of pairs.new.items)))
         else now (inl None))) }
-    ensures triangular { OnOk result (IsTriangular (bindings_of bindings.new.items)) }
+    ensures triangular { OnOk result (IsTriangular (bindings_of bindings.new.entries)) }
     ensures bindings { (most : ℕ) → IsTrue (is_sound most pair.entry.left) →
         IsTrue (is_sound most pair.entry.right) →
-        IsTrue (are_sound_bindings most bindings.old.items) →
-        OnOk result (IsTrue (are_sound_bindings most bindings.new.items)) }
+        IsTrue (are_sound_bindings most bindings.old.entries) →
+        OnOk result (IsTrue (are_sound_bindings most bindings.new.entries)) }
     ensures pairs { (most : ℕ) → IsTrue (is_sound most pair.entry.left) →
         IsTrue (is_sound most pair.entry.right) →
-        IsTrue (are_sound_bindings most bindings.old.items) →
+        IsTrue (are_sound_bindings most bindings.old.entries) →
         IsTrue (are_sound_pairs most pairs.old.items) →
         OnOk result (IsTrue (are_sound_pairs most pairs.new.items)) }
 {
-    let left = end_of(bindings.as_slice(), pair.left);
-    let right = end_of(bindings.as_slice(), pair.right);
-    match rule(bindings.as_slice(), left, right) {
+    let left = end_of(bindings, pair.left);
+    let right = end_of(bindings, pair.right);
+    match rule(alloc, bindings, left, right)? {
         Rule::Dropped => Ok(true),
         Rule::Bound(binding) => {
-            bindings.push(binding)?;
+            bindings.insert(binding.variable, binding.to)?;
             Ok(true)
         }
         Rule::Split(ts, us) => {
@@ -113,25 +115,25 @@ pub(crate) fn solve<'a>(
     alloc: Global,
     left: Shifted<'a>,
     right: Shifted<'a>,
-) -> Result<Option<Vec<Binding<'a>>>, AllocError>
+) -> Result<Option<Bindings<'a>>, AllocError>
     requires left { IsTrue (is_sound MAX_VARIABLE_BASE left) }
     requires right { IsTrue (is_sound MAX_VARIABLE_BASE right) }
     ensures solved { IfOk result
         (λ solved. MatchOption solved (unifier (tree_of left.entry) (tree_of right.entry) ≡ None)
         (λ bindings. unifier (tree_of left.entry) (tree_of right.entry)
-        ≡ Some (map_of (bindings_of bindings.items)))) }
+        ≡ Some (map_of (bindings_of bindings.entries)))) }
     ensures triangular { IfOk result
-        (λ solved. IfSome solved (λ bindings. IsTriangular (bindings_of bindings.items))) }
+        (λ solved. IfSome solved (λ bindings. IsTriangular (bindings_of bindings.entries))) }
     ensures sound { (most : ℕ) → IsTrue (is_sound most left.entry) →
         IsTrue (is_sound most right.entry) →
         IfOk result
-        (λ solved. IfSome solved (λ bindings. IsTrue (are_sound_bindings most bindings.items))) }
+        (λ solved. IfSome solved (λ bindings. IsTrue (are_sound_bindings most bindings.entries))) }
 {
-    let mut bindings = Vec::new(alloc);
+    let mut bindings = IndexMap::new(alloc);
     let mut pairs = Vec::new(alloc);
     pairs.push(Pair { left, right })?;
     while let Some(pair) = pairs.pop() {
-        if !turn(&mut bindings, &mut pairs, pair)? {
+        if !turn(alloc, &mut bindings, &mut pairs, pair)? {
             return Ok(None);
         }
     }

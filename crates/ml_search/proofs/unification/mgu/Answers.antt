@@ -12,8 +12,7 @@ use Rattle.ml_search.proofs.unification.mgu.Goals as goal
 
 pub map_from-requires-clause-sound : goal.map_from-requires-clause-sound
 map_from-requires-clause-sound c =
-    ap (are_sound_bindings 0) c.as_slice.ensures.value
-    ∙ subst (λ o. IfSome o (λ bindings. are_sound_bindings 0 bindings.items ≡ true)) c.in-Some.is
+    subst (λ o. IfSome o (λ bindings. are_sound_bindings 0 bindings.entries ≡ true)) c.in-Some.is
     (c.in_ok-solve.ensures.sound 0 (and_from _ _ refl c.requires.a) (and_from _ _ refl c.requires.b))
 
 both : (t u : Tree) → unifier (shift_variables 0 t) (shift_variables 0 u) ≡ unifier t u
@@ -26,7 +25,7 @@ returns-in-None c =
     let found : unifier (shift_variables 0 t) (shift_variables 0 u) ≡ None =
     subst
     (λ o. MatchOption o (unifier (shift_variables 0 t) (shift_variables 0 u) ≡ None)
-    (λ bindings. unifier (shift_variables 0 t) (shift_variables 0 u) ≡ Some (map_of (bindings_of bindings.items)))) c.in-None.is
+    (λ bindings. unifier (shift_variables 0 t) (shift_variables 0 u) ≡ Some (map_of (bindings_of bindings.entries)))) c.in-None.is
     c.in_ok-solve.ensures.solved in
     sym (sym (both t u) ∙ found)
 
@@ -34,9 +33,9 @@ pub returns-in_ok-map_from-in-Some : goal.returns-in_ok-map_from-in-Some
 returns-in_ok-map_from-in-Some c =
     let t = seen c.args.a.now in
     let u = seen c.args.b.now in
-    let found : unifier (shift_variables 0 t) (shift_variables 0 u) ≡ Some (map_of (bindings_of c.in-Some.bindings.items)) =
+    let found : unifier (shift_variables 0 t) (shift_variables 0 u) ≡ Some (map_of (bindings_of c.in-Some.bindings.entries)) =
     subst
     (λ o. MatchOption o (unifier (shift_variables 0 t) (shift_variables 0 u) ≡ None)
-    (λ bindings. unifier (shift_variables 0 t) (shift_variables 0 u) ≡ Some (map_of (bindings_of bindings.items)))) c.in-Some.is
+    (λ bindings. unifier (shift_variables 0 t) (shift_variables 0 u) ≡ Some (map_of (bindings_of bindings.entries)))) c.in-Some.is
     c.in_ok-solve.ensures.solved in
-    ap Some (c.in_ok-map_from-in-Some.ensures ∙ ap (λ xs. map_of (bindings_of xs)) c.as_slice.ensures.value) ∙ sym (sym (both t u) ∙ found)
+    ap Some c.in_ok-map_from-in-Some.ensures ∙ sym (sym (both t u) ∙ found)

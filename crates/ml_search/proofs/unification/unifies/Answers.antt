@@ -17,7 +17,7 @@ returns-clause-same c =
     let found : c.is_some.result ≡ is_some (unifier p (shift_variables 4294967296 h)) =
     c.is_some.ensures
     ∙ found_is c.in_ok-solve.field-0 (unifier (shift_variables 0 p) (shift_variables 4294967296 h))
-    (λ bindings. map_of (bindings_of bindings.items)) c.in_ok-solve.ensures.solved
+    (λ bindings. map_of (bindings_of bindings.entries)) c.in_ok-solve.ensures.solved
     ∙ ap (λ x. is_some (unifier x (shift_variables 4294967296 h))) (fresh_from_zero p) in
     let behind = apart_behind_all p h c.requires.pattern in
     let here = apart_from_pattern p h in
@@ -33,7 +33,7 @@ returns-clause-instance c =
     let found : c.is_some.result ≡ is_some (unifier p (shift_variables 4294967296 h)) =
     c.is_some.ensures
     ∙ found_is c.in_ok-solve.field-0 (unifier (shift_variables 0 p) (shift_variables 4294967296 h))
-    (λ bindings. map_of (bindings_of bindings.items)) c.in_ok-solve.ensures.solved
+    (λ bindings. map_of (bindings_of bindings.entries)) c.in_ok-solve.ensures.solved
     ∙ ap (λ x. is_some (unifier x (shift_variables 4294967296 h))) (fresh_from_zero p) in
     let behind = apart_behind_all p h c.requires.pattern in
     ((λ e. instance_of 4294967296 p h behind (sym found ∙ e)), (λ i. found ∙ of_instance 4294967296 p h behind i))

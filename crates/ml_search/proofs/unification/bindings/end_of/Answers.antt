@@ -12,18 +12,18 @@ pub loop-end-smaller : goal.loop-end-smaller
 loop-end-smaller c =
     let is : tree_of c.loop-end.end ≡ variable (c.loop-end.end.base + c.in-Var.n) = is_variable c.loop-end.end c.in-Var.n c.in-Var.is in
     subst (λ t. age (tree_of c.in-Some.to) < age t) (sym is)
-    (chain_falls (bindings_of c.args.bindings.now) (c.loop-end.end.base + c.in-Var.n) (tree_of c.in-Some.to) c.requires.triangular
-    (ap (λ n. bound_term (bindings_of c.args.bindings.now) (c.loop-end.end.base + n)) (sym c.from.ensures) ∙ c.in-Some.ensures.found))
+    (chain_falls (bindings_of c.args.bindings.now.entries) (c.loop-end.end.base + c.in-Var.n) (tree_of c.in-Some.to) c.requires.triangular
+    (ap (λ n. bound_term (bindings_of c.args.bindings.now.entries) (c.loop-end.end.base + n)) (sym c.from.ensures) ∙ c.in-Some.ensures.found))
 
 pub loop-end-preserved : goal.loop-end-preserved
 loop-end-preserved c =
-    let bs = bindings_of c.args.bindings.now in
+    let bs = bindings_of c.args.bindings.now.entries in
     let is : tree_of c.loop-end.end ≡ variable (c.loop-end.end.base + c.in-Var.n) = is_variable c.loop-end.end c.in-Var.n c.in-Var.is in
     record {
       same =
           sym
           (stands_for_bound bs (c.loop-end.end.base + c.in-Var.n) (tree_of c.in-Some.to) c.requires.triangular
-          (ap (λ n. bound_term (bindings_of c.args.bindings.now) (c.loop-end.end.base + n)) (sym c.from.ensures) ∙ c.in-Some.ensures.found))
+          (ap (λ n. bound_term (bindings_of c.args.bindings.now.entries) (c.loop-end.end.base + n)) (sym c.from.ensures) ∙ c.in-Some.ensures.found))
           ∙ ap (apply (map_of bs)) (sym is) ∙ c.loop-end.invariant.same;
       sound = λ most bs at. c.in-Some.ensures.sound most bs;
     }

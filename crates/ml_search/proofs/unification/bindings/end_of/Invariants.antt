@@ -7,8 +7,8 @@ use Rattle.ml_search.proofs.unification.bindings.end_of.Given as goal
 
 abbrev pub invariant-loop-end : goal.invariant-loop-end
 invariant-loop-end l = record {
-  same : apply (map_of (bindings_of l.bindings)) (tree_of l.end) ≡ apply (map_of (bindings_of l.bindings)) (tree_of l.at);
-  sound : (most : ℕ) → are_sound_bindings most l.bindings ≡ true → is_sound most l.at ≡ true → is_sound most l.end ≡ true;
+  same : apply (map_of (bindings_of l.bindings.entries)) (tree_of l.end) ≡ apply (map_of (bindings_of l.bindings.entries)) (tree_of l.at);
+  sound : (most : ℕ) → are_sound_bindings most l.bindings.entries ≡ true → is_sound most l.at ≡ true → is_sound most l.end ≡ true;
 }
 
 abbrev pub decreases-loop-end : goal.decreases-loop-end

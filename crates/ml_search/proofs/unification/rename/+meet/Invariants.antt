@@ -11,4 +11,4 @@ abbrev pub decreases-meet_all : goal.decreases-meet_all
 decreases-meet_all l = 2 * nodes_of (trees_of (all_seen l.ts.now)) + 1
 
 abbrev pub invariant-meet_all-loop-t : goal.invariant-meet_all-loop-t
-invariant-meet_all-loop-t l = l.met.items ≡ variables_met l.fn.met.items (variables_of (trees_of (all_seen (take l.t-index l.ts))))
+invariant-meet_all-loop-t l = l.met.keys ≡ variables_met l.fn.met.keys (variables_of (trees_of (all_seen (take l.t-index l.ts))))

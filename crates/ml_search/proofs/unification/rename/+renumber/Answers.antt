@@ -18,24 +18,24 @@ met_place met n t is known = place_below met n (and_parts (has n met) true (sym 
 
 pub renumber-overflow_cast-result : goal.renumber-overflow_cast-result
 renumber-overflow_cast-result t c =
-    let low = met_place c.args.met.now c.in-Var.n (seen c.args.t.now) (ap seen c.in-Var.is ∙ seen_variable c.in-Var.n) c.requires.known in
+    let low = met_place c.args.met.now.keys c.in-Var.n (seen c.args.t.now) (ap seen c.in-Var.is ∙ seen_variable c.in-Var.n) c.requires.known in
     record { fits = omega (arith, low, c.place_of.ensures, c.requires.room) }
 
 pub renumber-overflow_add-result : goal.renumber-overflow_add-result
 renumber-overflow_add-result t c =
-    let low = met_place c.args.met.now c.in-Var.n (seen c.args.t.now) (ap seen c.in-Var.is ∙ seen_variable c.in-Var.n) c.requires.known in
+    let low = met_place c.args.met.now.keys c.in-Var.n (seen c.args.t.now) (ap seen c.in-Var.is ∙ seen_variable c.in-Var.n) c.requires.known in
     record { fits = omega (arith, low, c.place_of.ensures, c.requires.room) }
 
 pub renumber-returns-in-Var-clause-valid : goal.renumber-returns-in-Var-clause-valid
 renumber-returns-in-Var-clause-valid t c =
-    let low = met_place c.args.met.now c.in-Var.n (seen c.args.t.now) (ap seen c.in-Var.is ∙ seen_variable c.in-Var.n) c.requires.known in
+    let low = met_place c.args.met.now.keys c.in-Var.n (seen c.args.t.now) (ap seen c.in-Var.is ∙ seen_variable c.in-Var.n) c.requires.known in
     ap is_valid (seen_variable (c.args.first + c.place_of.result))
     ∙ lt-ltb (c.args.first + c.place_of.result) (2 ^ 32) (omega (arith, low, c.place_of.ensures, c.requires.room))
 
 pub renumber-returns-in_ok-args-in-Cmp-clause-same :
     goal.renumber-returns-in_ok-args-in-Cmp-clause-same
 renumber-returns-in_ok-args-in-Cmp-clause-same t c =
-    let s : ℕ → Tree = λ n. variable (c.args.first + place_in c.args.met.now n) in
+    let s : ℕ → Tree = λ n. variable (c.args.first + place_in c.args.met.now.keys n) in
     let name = c.in_ok-name-in-Cmp.name in
     let args = c.in_ok-args-in-Cmp.args.items in
     let is : seen c.args.t.now ≡ compound c.in-Cmp.f (trees_of (all_seen c.in-Cmp.ts)) = ap seen c.in-Cmp.is ∙ seen_compound c.in-Cmp.f c.in-Cmp.ts in
@@ -62,7 +62,7 @@ renumber_all-renumber-requires t c =
     let i = c.loop-t.t-index in
     let x = c.t-item.result in
     let fewer = fewer_nodes ts i x c.loop-t-test.true c.t-item.is in
-    let p : ℕ → Bool = λ n. has n c.args.met.now in (
+    let p : ℕ → Bool = λ n. has n c.args.met.now.keys in (
       omega (arith, fewer),
       (
         next_is_valid ts i x c.loop-t-test.true c.t-item.is c.requires.valid,
@@ -75,7 +75,7 @@ renumber_all-loop-t-preserved t c =
     let ts = c.args.ts.now in
     let i = c.loop-t.t-index in
     let x = c.t-item.result in
-    let s : ℕ → Tree = λ n. variable (c.args.first + place_in c.args.met.now n) in
+    let s : ℕ → Tree = λ n. variable (c.args.first + place_in c.args.met.now.keys n) in
     record {
       same =
           built_more ts i x c.loop-t-test.true c.t-item.is
@@ -90,7 +90,7 @@ renumber_all-loop-t-preserved t c =
 
 pub renumber_all-returns-clause-same : goal.renumber_all-returns-clause-same
 renumber_all-returns-clause-same t c =
-    let s : ℕ → Tree = λ n. variable (c.args.first + place_in c.args.met.now n) in
+    let s : ℕ → Tree = λ n. variable (c.args.first + place_in c.args.met.now.keys n) in
     ap trees_of
     (built_all (λ t. substitute s (seen t)) c.args.ts.now c.loop-t.us.items c.loop-t.t-index (omega (arith, c.loop-t-test.false)) c.loop-t.invariant.same)
     ∙ all_substituted s c.args.ts.now

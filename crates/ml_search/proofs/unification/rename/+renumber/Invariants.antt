@@ -12,7 +12,7 @@ decreases-renumber_all l = 2 * nodes_of (trees_of (all_seen l.ts.now)) + 1
 
 abbrev pub invariant-renumber_all-loop-t : goal.invariant-renumber_all-loop-t
 invariant-renumber_all-loop-t l = record {
-  same : all_seen l.us.items ≡ map (λ t. substitute (λ n. variable (l.first + place_in l.met n)) (seen t)) (take l.t-index l.ts);
+  same : all_seen l.us.items ≡ map (λ t. substitute (λ n. variable (l.first + place_in l.met.keys n)) (seen t)) (take l.t-index l.ts);
   valid : are_valid (trees_of (all_seen l.us.items)) ≡ true;
   count : length l.us.items ≡ l.t-index;
 }

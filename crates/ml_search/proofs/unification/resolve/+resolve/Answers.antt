@@ -21,11 +21,11 @@ use Rattle.ml_search.proofs.unification.resolve.+resolve.Goals as goal
 
 pub resolve-end_of-end-requires-clause-sound :
     goal.resolve-end_of-end-requires-clause-sound
-resolve-end_of-end-requires-clause-sound t c = sound_for_more 4294967296 c.args.bindings.now c.requires.sound
+resolve-end_of-end-requires-clause-sound t c = sound_for_more 4294967296 c.args.bindings.now.entries c.requires.sound
 
 pub resolve-returns-in-Var-clause-same : goal.resolve-returns-in-Var-clause-same
 resolve-returns-in-Var-clause-same t c =
-    let bs = bindings_of c.args.bindings.now in
+    let bs = bindings_of c.args.bindings.now.entries in
     let k = c.end_of-end.result.base + c.in-Var.n in
     let is : tree_of c.end_of-end.result ≡ variable k = is_variable c.end_of-end.result c.in-Var.n c.in-Var.is in
     let free : bound_term bs k ≡ None = subst (IsFree bs) is c.end_of-end.ensures.free in
@@ -52,7 +52,7 @@ resolve-returns-in_ok-args-in-Cmp-clause-valid t c =
 
 pub resolve_all-resolve-requires : goal.resolve_all-resolve-requires
 resolve_all-resolve-requires t c =
-    let m = map_of (bindings_of c.args.bindings.now) in
+    let m = map_of (bindings_of c.args.bindings.now.entries) in
     let i = c.loop-t.t-index in
     let is : seen (get_or c.args.ts.now i c.t-item.result) ≡ seen c.t-item.result = sym (ap seen c.t-item.is) in
     let fewer : nodes (apply m (shift_variables 0 (seen c.t-item.result))) ≤ nodes_of (trees_under m 0 c.args.ts.now) =
@@ -67,7 +67,7 @@ resolve_all-resolve-requires t c =
 
 pub resolve_all-loop-t-preserved : goal.resolve_all-loop-t-preserved
 resolve_all-loop-t-preserved t c =
-    let m = map_of (bindings_of c.args.bindings.now) in
+    let m = map_of (bindings_of c.args.bindings.now.entries) in
     let i = c.loop-t.t-index in
     let us = c.loop-t.us.items in
     let u = c.in_ok-resolve.field-0 in
@@ -85,6 +85,6 @@ resolve_all-loop-t-preserved t c =
 
 pub resolve_all-returns-clause-same : goal.resolve_all-returns-clause-same
 resolve_all-returns-clause-same t c =
-    let m = map_of (bindings_of c.args.bindings.now) in
+    let m = map_of (bindings_of c.args.bindings.now.entries) in
     let all : take c.loop-t.t-index c.args.ts.now ≡ c.args.ts.now = take_all c.loop-t.t-index c.args.ts.now (omega (arith, c.loop-t-test.false)) in
     ap trees_of c.loop-t.invariant.same ∙ ap (λ ts. trees_of (under_map m ts)) all ∙ all_under m c.args.ts.now

@@ -13,29 +13,29 @@ loop-pair-init c =
     record {
       solved =
           begins c.args.left c.args.right
-          (record { left = c.args.left; right = c.args.right }) c.new-bindings.result.items c.push.new.self.items c.new-bindings.ensures.items one refl;
-      triangular = subst (λ xs. IsTriangular (bindings_of xs)) (sym c.new-bindings.ensures.items) no_bindings;
-      bindings = λ most a b. ap (are_sound_bindings most) c.new-bindings.ensures.items;
+          (record { left = c.args.left; right = c.args.right }) c.new-bindings.result.entries c.push.new.self.items c.new-bindings.ensures.empty one refl;
+      triangular = subst (λ xs. IsTriangular (bindings_of xs)) (sym c.new-bindings.ensures.empty) no_bindings;
+      bindings = λ most a b. ap (are_sound_bindings most) c.new-bindings.ensures.empty;
       pairs = λ most a b. ap (are_sound_pairs most) one ∙ and_from _ _ (and_from _ _ a b) refl;
     }
 
 pub returns-then-not-branch-clause-solved : goal.returns-then-not-branch-clause-solved
 returns-then-not-branch-clause-solved c =
     sym c.loop-pair.invariant.solved
-    ∙ ends c.loop-pair.bindings.items c.loop-pair.pairs.items c.pop.new.self.items c.in-Some.pair c.in-Some.ensures.items c.in_ok-turn.field-0 _
+    ∙ ends c.loop-pair.bindings.entries c.loop-pair.pairs.items c.pop.new.self.items c.in-Some.pair c.in-Some.ensures.items c.in_ok-turn.field-0 _
     c.if-not-branch.true c.in_ok-turn.ensures.turned
 
 pub loop-pair-smaller : goal.loop-pair-smaller
 loop-pair-smaller c =
-    falls c.loop-pair.bindings.items c.loop-pair.pairs.items c.pop.new.self.items c.in-Some.pair c.in-Some.ensures.items c.in_ok-turn.field-0
-    c.turn.new.bindings.items c.turn.new.pairs.items c.if-not-branch.false c.in_ok-turn.ensures.turned
+    falls c.loop-pair.bindings.entries c.loop-pair.pairs.items c.pop.new.self.items c.in-Some.pair c.in-Some.ensures.items c.in_ok-turn.field-0
+    c.turn.new.bindings.entries c.turn.new.pairs.items c.if-not-branch.false c.in_ok-turn.ensures.turned
 
 pub loop-pair-preserved : goal.loop-pair-preserved
 loop-pair-preserved c = record {
   solved =
       sym
-      (goes c.loop-pair.bindings.items c.loop-pair.pairs.items c.pop.new.self.items c.in-Some.pair c.in-Some.ensures.items c.in_ok-turn.field-0
-      c.turn.new.bindings.items c.turn.new.pairs.items c.if-not-branch.false c.in_ok-turn.ensures.turned) ∙ c.loop-pair.invariant.solved;
+      (goes c.loop-pair.bindings.entries c.loop-pair.pairs.items c.pop.new.self.items c.in-Some.pair c.in-Some.ensures.items c.in_ok-turn.field-0
+      c.turn.new.bindings.entries c.turn.new.pairs.items c.if-not-branch.false c.in_ok-turn.ensures.turned) ∙ c.loop-pair.invariant.solved;
   triangular = c.in_ok-turn.ensures.triangular;
   bindings = λ most a b.
       let t = taken most c.loop-pair.pairs.items c.pop.new.self.items c.in-Some.pair c.in-Some.ensures.items (c.loop-pair.invariant.pairs most a b) in
@@ -49,4 +49,4 @@ pub returns-clause-solved : goal.returns-clause-solved
 returns-clause-solved c =
     let len : vec_len c.loop-pair.pairs ≡ length c.loop-pair.pairs.items = search rules in
     sym c.loop-pair.invariant.solved
-    ∙ done c.loop-pair.bindings.items c.loop-pair.pairs.items (nil_from_length c.loop-pair.pairs.items (sym len ∙ c.in_default.ensures.cases.0))
+    ∙ done c.loop-pair.bindings.entries c.loop-pair.pairs.items (nil_from_length c.loop-pair.pairs.items (sym len ∙ c.in_default.ensures.cases.0))

@@ -8,12 +8,12 @@ use Rattle.ml_search.proofs.unification.solve.solve.Given as goal
 
 abbrev pub invariant-loop-pair : goal.invariant-loop-pair
 invariant-loop-pair l = record {
-  solved : solve_equations (equations_under (map_of (bindings_of l.bindings.items)) (equations_of l.pairs.items)) (map_of (bindings_of l.bindings.items))
+  solved : solve_equations (equations_under (map_of (bindings_of l.bindings.entries)) (equations_of l.pairs.items)) (map_of (bindings_of l.bindings.entries))
       ≡ unifier (tree_of l.left) (tree_of l.right);
-  triangular : IsTriangular (bindings_of l.bindings.items);
-  bindings : (most : ℕ) → is_sound most l.left ≡ true → is_sound most l.right ≡ true → are_sound_bindings most l.bindings.items ≡ true;
+  triangular : IsTriangular (bindings_of l.bindings.entries);
+  bindings : (most : ℕ) → is_sound most l.left ≡ true → is_sound most l.right ≡ true → are_sound_bindings most l.bindings.entries ≡ true;
   pairs : (most : ℕ) → is_sound most l.left ≡ true → is_sound most l.right ≡ true → are_sound_pairs most l.pairs.items ≡ true;
 }
 
 abbrev pub decreases-loop-pair : goal.decreases-loop-pair
-decreases-loop-pair l = turns (state_of l.bindings.items (equations_of l.pairs.items))
+decreases-loop-pair l = turns (state_of l.bindings.entries (equations_of l.pairs.items))

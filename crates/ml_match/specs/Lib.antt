@@ -1,0 +1,4 @@
+pub mod Slots
+pub mod Built
+pub mod Entered
+pub mod inside

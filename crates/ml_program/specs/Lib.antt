@@ -1,0 +1,4 @@
+pub mod Links
+pub mod LoadedProgram
+pub mod LinkedGoals
+pub mod inside

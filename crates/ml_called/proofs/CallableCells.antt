@@ -75,5 +75,6 @@ module _ (h : Changes) (old new : List ℕ) (q : ℕ) (e : old ≡ new ++ q ∷ 
       none true = refl
       none false = refl
 
-  pub still_callable : (b : Bool) (left : List ℕ) → are_callable h old ≡ b → are_callable h left ≡ (are_callable h new && is_callable (stands_for h q)) → are_callable h left ≡ b
+  pub still_callable : (b : Bool) (left : List ℕ) → are_callable h old ≡ b → are_callable h left ≡ (are_callable h new && is_callable (stands_for h q)) →
+      are_callable h left ≡ b
   still_callable b left same l = l ∙ (sym (callable_last h new q) ∙ (sym (ap (are_callable h) e) ∙ same))

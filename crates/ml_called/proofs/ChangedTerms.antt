@@ -120,7 +120,8 @@ module _ (s : Tree → Tree) where
   body_changed (compound f (tree t (tree u no_trees))) k =
       two_changed f t u (joins_bodies f) refl k (body_changed t) (body_changed u)
   body_changed (compound f (tree t (tree u (tree v no_trees)))) k = three_in (bytes_eq f (codes "findall")) (bytes_eq f (codes "catch")) f t u v
-  body_changed (compound f (tree t (tree u (tree v (tree w ts))))) k = ap (λ us. predication f (s t ∷ s u ∷ s v ∷ s w ∷ us)) (list_of_trees (map s (list_of ts)))
+  body_changed (compound f (tree t (tree u (tree v (tree w ts))))) k = ap (λ us. predication f (s t ∷ s u ∷ s v ∷ s w ∷ us)) (list_of_trees (map s
+      (list_of ts)))
 
   two_callable : (f : List ℕ) (t u : Tree) (b : Bool) → joins_bodies f ≡ b → keeps_variables s (compound_2 f t u) ≡ true
       → (keeps_variables s t ≡ true → is_callable (change_terms s t) ≡ is_callable t)

@@ -49,10 +49,12 @@ module _ (h : Changes) (ts : List Tree) (i : ℕ) (l : i < length ts) where
 
 -- a compound that is no connective of two
 module _ (f : List ℕ) (n : ℕ) where
-  pub compound_outline : (ts : List Tree) → is_joined (compound f (trees_of ts)) ≡ false → outline n (compound f (trees_of ts)) ≡ compound f (trees_of (numbered n ts))
+  pub compound_outline : (ts : List Tree) → is_joined (compound f (trees_of ts)) ≡ false → outline n (compound f (trees_of ts))
+      ≡ compound f (trees_of (numbered n ts))
   compound_outline [] j = refl
   compound_outline (t ∷ []) j = refl
-  compound_outline (t ∷ u ∷ []) j = ap (λ b. cond b (compound_2 f (outline n t) (outline (n + length (parts t)) u)) (compound_2 f (variable n) (variable (n + 1)))) j
+  compound_outline (t ∷ u ∷ []) j = ap (λ b. cond b (compound_2 f (outline n t) (outline (n + length (parts t)) u)) (compound_2 f (variable n) (variable
+      (n + 1)))) j
   compound_outline (t ∷ u ∷ v ∷ ts) j =
       ap (λ us. compound f (trees_of (variable n ∷ variable (n + 1) ∷ variable (n + 1 + 1) ∷ numbered (n + 1 + 1 + 1) us))) (list_of_trees ts)
 

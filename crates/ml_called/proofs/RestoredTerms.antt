@@ -87,7 +87,8 @@ module _ (s : ℕ → Tree) where
   abbrev Restored : ℕ → Tree → Type 0
   Restored n t = (change_terms (substitute s) (outline n t) ≡ t) × (keeps_variables (substitute s) (outline n t) ≡ true)
 
-  two_fit : (n : ℕ) (f : List ℕ) (t u : Tree) → joins_bodies f ≡ true → Fits s n (parts (compound_2 f t u)) → Fits s n (parts t) × Fits s (n + length (parts t)) (parts u)
+  two_fit : (n : ℕ) (f : List ℕ) (t u : Tree) → joins_bodies f ≡ true → Fits s n (parts (compound_2 f t u)) →
+      Fits s n (parts t) × Fits s (n + length (parts t)) (parts u)
   two_fit n f t u j h =
       let both : Fits s n (parts t ++ parts u) = subst (λ (us : List Tree). Fits s n us) (parts_joined f t u j) h in
       (fits_front n (parts t) (parts u) both, fits_back n (parts t) (parts u) both)

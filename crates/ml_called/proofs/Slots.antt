@@ -48,12 +48,14 @@ module _ (h : Changes) where
   how_many old new ts a = omega (arith, ap length a.slots, length-append old a.cells, length-map a.cells (stands_for h), ap length a.trees)
 
   -- the variables of an environment stand for the cells behind the old slots
-  slots_fit : (new cs : List ℕ) (env n : ℕ) → ((i : ℕ) → i < length cs → get_or new (env + (n + i)) 0 ≡ get_or cs i 0) → Fits (value_at h new env) n (map (stands_for h) cs)
+  slots_fit : (new cs : List ℕ) (env n : ℕ) → ((i : ℕ) → i < length cs → get_or new (env + (n + i)) 0 ≡ get_or cs i 0) →
+      Fits (value_at h new env) n (map (stands_for h) cs)
   slots_fit new [] env n g = tt
   slots_fit new (c ∷ cs) env n g =
       let e : env + (n + 0) ≡ env + n = omega arith in (
         ap (stands_for h) (ap (λ k. get_or new k 0) (sym e) ∙ g 0 (omega arith)),
-        slots_fit new cs env (n + 1) (λ i l. let f : env + (n + 1 + i) ≡ env + (n + suc i) = omega arith in ap (λ k. get_or new k 0) f ∙ g (suc i) (omega arith)),
+        slots_fit new cs env (n + 1) (λ i l. let f : env + (n + 1 + i) ≡ env + (n + suc i) = omega arith in ap (λ k. get_or new k 0) f
+            ∙ g (suc i) (omega arith)),
       )
 
   pub cells_fit : (old new : List ℕ) (ts : List Tree) → HasCells h old new ts → Fits (value_at h new (length old)) 0 ts

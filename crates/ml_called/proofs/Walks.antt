@@ -66,7 +66,8 @@ module _ (h : Changes) where
 
   module _ (old : List ℕ) (want : Outline) (frames new : List Frame) (slots : List ℕ) where
     -- into a connective
-    pub walk_enters : (at a b : ℕ) (f : List ℕ) → IsWalking h old want frames slots (Enter at) → stands_for h at ≡ compound_2 f (stands_for h a) (stands_for h b)
+    pub walk_enters : (at a b : ℕ) (f : List ℕ) → IsWalking h old want frames slots (Enter at) →
+        stands_for h at ≡ compound_2 f (stands_for h a) (stands_for h b)
         → joins_bodies f ≡ true → a < cell_count h → b < cell_count h → new ≡ frames ++ First f b ∷ [] → IsWalking h old want new slots (Enter a)
     walk_enters at a b f w is j ia ib e = record {
       terms = w.terms;
@@ -81,7 +82,8 @@ module _ (h : Changes) where
 
     -- a goal is outlined
     pub walk_outlines : (at env : ℕ) (slots' : List ℕ) (a : Term) → IsWalking h old want frames slots (Enter at) → env ≡ length old
-        → HasCells h slots slots' (parts (stands_for h at)) → seen a ≡ outline (length slots - env) (stands_for h at) → IsWalking h old want frames slots' (Outlined a)
+        → HasCells h slots slots' (parts (stands_for h at)) → seen a ≡ outline (length slots - env) (stands_for h at) →
+            IsWalking h old want frames slots' (Outlined a)
     walk_outlines at env slots' a w e c s =
         let n : length slots - env ≡ length w.terms = omega (arith, how_many h old slots w.terms w.cells, e) in
         let is : seen a ≡ outline (length w.terms) (stands_for h at) = s ∙ ap (λ k. outline k (stands_for h at)) n in

@@ -46,5 +46,6 @@ built_more h h' before cells cells' ts t r b g e l s = record {
   made = b.made ++ r ∷ [];
   cells = e ∙ ap (λ qs. qs ++ r ∷ []) b.cells ∙ append_assoc before b.made (r ∷ []);
   inside = cells_append (cell_count h') b.made (r ∷ []) (cells_wider (cell_count h) (cell_count h') b.made g.cells b.inside) (l, tt);
-  stand = map-append (stands_for h') b.made (r ∷ []) ∙ (ap (λ us. us ++ stands_for h' r ∷ []) (still h h' b.made g b.inside ∙ b.stand) ∙ ap (λ u. ts ++ u ∷ []) s);
+  stand = map-append (stands_for h') b.made (r ∷ []) ∙ (ap (λ us. us ++ stands_for h' r ∷ []) (still h h' b.made g b.inside ∙ b.stand)
+      ∙ ap (λ u. ts ++ u ∷ []) s);
 }

@@ -48,7 +48,8 @@ here_or_later k m l = grind arith
 before_or_behind : (k b : ℕ) → (k < b) ⊎ (b ≤ k)
 before_or_behind k b = grind arith
 
-met_inside : {code : List Instr} {p q met after : ℕ} {ts : List Tree} (k : ℕ) → Matches code p q met ts after → met ≤ k → k < after → In k (variables_of (trees_of ts))
+met_inside : {code : List Instr} {p q met after : ℕ} {ts : List Tree} (k : ℕ) → Matches code p q met ts after → met ≤ k → k < after →
+    In k (variables_of (trees_of ts))
 met_inside k nothing_matched l h = absurd (omega arith)
 met_inside {met} k (first_matched {ts = rest} s m) l h = elim (here_or_later k met l) [
   | inl e ↦ in_left k (variables (variable met)) (variables_of (trees_of rest)) (subst (λ (x : ℕ). In k (variables (variable x))) e (in_itself k))
@@ -58,7 +59,8 @@ met_inside k (again_matched {n} {ts = rest} s x m) l h = in_right k (variables (
 met_inside k (integer_matched {z} {ts = rest} s m) l h = met_inside k m l h
 met_inside k (atom_matched {f} {ts = rest} s m) l h = met_inside k m l h
 met_inside k (compound_matched {between} {f} {us} {ts = rest} s n inner m) l h = elim (before_or_behind k between) [
-  | inl b ↦ in_left k (variables_of us) (variables_of (trees_of rest)) (subst (λ (vs : Trees). In k (variables_of vs)) (trees_listed us) (met_inside k inner l b))
+  | inl b ↦ in_left k (variables_of us) (variables_of (trees_of rest)) (subst (λ (vs : Trees). In k (variables_of vs)) (trees_listed us)
+      (met_inside k inner l b))
   | inr b ↦ in_right k (variables_of us) (variables_of (trees_of rest)) (met_inside k m b h)
 ]
 
@@ -177,7 +179,8 @@ module _ (code : List Instr) (h h1 h2 h3 : Changes) (slots slots' args todo : Li
   entered_some e k =
       let u = some (mgu es) e in
       let carried : Carries h2 h3 u.0 = k u.0 u.1 in
-      let all : Carries h h3 u.0 = carries_go_on h h1 h3 [] u.0 (carries_grown h h1 grown) (carries_go_on h1 h2 h3 [] u.0 (carries_grown h1 h2 grown2) carried) in
+      let all : Carries h h3 u.0 = carries_go_on h h1 h3 [] u.0 (carries_grown h h1 grown) (carries_go_on h1 h2 h3 [] u.0
+          (carries_grown h1 h2 grown2) carried) in
       let later : Carries h1 h3 u.0 = carries_go_on h1 h2 h3 [] u.0 (carries_grown h1 h2 grown2) carried in
       record {
         counted = counted;
@@ -232,7 +235,8 @@ module _ (code instrs : List Instr) (is : instrs ≡ code) (c : Clause) (s : Spe
         subst (λ (qs : List ℕ). HasSlot h1 qs (env + k)) (sym see) (subst (λ (e : ℕ). HasSlot h1 slots' (e + k)) (sym at_env) here)
 
     module _ (h2 : Changes) (cleared todo : List ℕ) (clear : cleared ≡ []) (inside : AreCells (cell_count h) args)
-        (added : length slots' ≡ length slots + wide) (counted1 : variable_count h1 ≡ variable_count h + wide) (counted2 : variable_count h2 ≡ variable_count h1)
+        (added : length slots' ≡ length slots + wide) (counted1 : variable_count h1 ≡ variable_count h + wide) (counted2 : variable_count h2
+            ≡ variable_count h1)
         (grown : Grows h h1) (grown2 : Grows h1 h2)
         (built : (met after : ℕ) (ts : List Tree) → Matches instrs 1 place met ts after → HaveSlotsBelow h1 shown env after
         → HasBuilt h2 cleared todo (map (substitute (slot_tree h1 shown env)) (reverse ts))) where
@@ -267,10 +271,12 @@ module _ (code instrs : List Instr) (is : instrs ≡ code) (c : Clause) (s : Spe
           (carried : (m : Map) → mgu (zip (map (stands_for h2) args) (map (stands_for h2) (reverse todo))) ≡ Some m → Carries h2 h3 m) where
         pub when_none : ok ≡ false → HasEntered code h h3 slots slots' c (map (stands_for h) args) None
         when_none e =
-            entered_none code h h1 h2 h3 slots slots' args todo place c s many inside added_all made_all (counted_all h3 counted3) grown grown2 built_here place_is
+            entered_none code h h1 h2 h3 slots slots' args todo place c s many inside added_all made_all
+                (counted_all h3 counted3) grown grown2 built_here place_is
             (sym e ∙ found)
 
         pub when_some : ok ≡ true → HasEntered code h h3 slots slots' c (map (stands_for h) args) (Some place)
         when_some e =
-            entered_some code h h1 h2 h3 slots slots' args todo place c s many inside added_all made_all (counted_all h3 counted3) grown grown2 built_here place_is
+            entered_some code h h1 h2 h3 slots slots' args todo place c s many inside added_all made_all
+                (counted_all h3 counted3) grown grown2 built_here place_is
             (sym e ∙ found) carried

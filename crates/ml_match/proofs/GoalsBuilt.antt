@@ -64,7 +64,8 @@ next_compound f n s c (atom_built s' b) = absurd (cc (s, s'))
 next_compound {code} {p} {q} {us} {ts} f n s c (compound_built {n = m} {f = g} xs args s' l e b) =
     let en : m ≡ n = cc (s, s') in
     let ef : g ≡ f = cc (s, s') in
-    record { others = xs; args = args; many = l ∙ en; parts = e; left = subst (λ (x : List ℕ). Builds code (p + 1) q (xs ++ compound x (trees_of args) ∷ []) ts) ef b }
+    record { others = xs; args = args; many = l ∙ en; parts = e; left = subst (λ (x : List ℕ). Builds code (p + 1) q (xs ++ compound x
+        (trees_of args) ∷ []) ts) ef b }
 
 no_more : {code : List Instr} {p q : ℕ} {us ts : List Tree} → IsCallAt code p → Builds code p q us ts → (p ≡ q) × (us ≡ ts)
 no_more c nothing_built = (refl, refl)
@@ -105,7 +106,8 @@ joined_any n xs args f =
     list_any-append (occurs n) xs (compound f (trees_of args) ∷ [])
     ∙ (ap (λ b. list_any (occurs n) xs || b) (or_false (has n (variables_of (trees_of args))) ∙ among n args) ∙ sym (list_any-append (occurs n) xs args))
 
-stands_in_all : {code : List Instr} {p q : ℕ} {us ts : List Tree} (n : ℕ) → Builds code p q us ts → list_any (occurs n) us ≡ true → list_any (occurs n) ts ≡ true
+stands_in_all : {code : List Instr} {p q : ℕ} {us ts : List Tree} (n : ℕ) → Builds code p q us ts → list_any (occurs n) us ≡ true →
+    list_any (occurs n) ts ≡ true
 stands_in_all n nothing_built e = e
 stands_in_all {us} n (variable_built {n = m} s b) e = stands_in_all n b (in_front n us (variable m ∷ []) e)
 stands_in_all {us} n (integer_built {z} s b) e = stands_in_all n b (in_front n us (integer z ∷ []) e)
@@ -133,7 +135,8 @@ in_parts f (q ∷ qs) (x ∷ xs) ys e =
     let p = in_parts f qs xs ys (cc e) in
     let head : f q ≡ x = cc e in
     let rest : map f p.front ≡ xs = p.fronts in
-    record { front = q ∷ p.front; back = p.back; parts = ap (λ rs. q ∷ rs) p.parts; fronts = ap (λ y. y ∷ map f p.front) head ∙ ap (λ zs. x ∷ zs) rest; backs = p.backs }
+    record { front = q ∷ p.front; back = p.back; parts = ap (λ rs. q ∷ rs) p.parts; fronts = ap (λ y. y ∷ map f p.front) head
+        ∙ ap (λ zs. x ∷ zs) rest; backs = p.backs }
 
 module _ (old : Changes) (slots : List ℕ) (env : ℕ) (code : List Instr) (before : List ℕ) (q : ℕ) (ts : List Tree) (at : ℕ) (h : Changes) (cells : List ℕ)
     (b : IsBuilding old slots env code before q ts at h cells) where
@@ -240,7 +243,8 @@ module _ (old : Changes) (slots : List ℕ) (env : ℕ) (code : List Instr) (bef
           slots_are = b.slots_are;
           grown = grows_on old h h' b.grown g;
           built = subst (HasBuilt h' before cells') (sym (map-append (substitute s) next.others (t ∷ [])))
-              (built_more h h' before (before ++ cut.front) cells' (map (substitute s) next.others) (substitute s t) r fronts g e (one_inside h h' r _ m) stands);
+              (built_more h h' before (before ++ cut.front) cells' (map (substitute s) next.others) (substitute s t) r fronts g e
+                  (one_inside h h' r _ m) stands);
         }
 
   -- at the call

@@ -111,7 +111,8 @@ clash_apart s next (compound h ts) u (Try a b) c m e = c
 clash_apart s next (compound h ts) u (Choose a b d) c m e = c
 
 -- the first argument of a head is what the first instruction matches
-first_matched_by : (code : List Instr) (x : Instr) (q met : ℕ) (u : Tree) (us : List Tree) → StandsAt code 1 x → Matches code 1 q 0 (u ∷ us) met → IsMatchedBy x u
+first_matched_by : (code : List Instr) (x : Instr) (q met : ℕ) (u : Tree) (us : List Tree) → StandsAt code 1 x → Matches code 1 q 0 (u ∷ us) met →
+    IsMatchedBy x u
 first_matched_by code (GetInt z) q met u us s m = first (next_integer z s (takes_some m) m).is
   where
     first : {t : Tree} {ts : List Tree} → u ∷ us ≡ t ∷ ts → u ≡ t

@@ -20,7 +20,8 @@ get_last (y ∷ xs) x = get_last xs x
 pub prefix_more : (xs ys zs : List ℕ) (z : ℕ) → IsPrefix xs ys → zs ≡ ys ++ z ∷ [] → IsPrefix xs zs
 prefix_more xs ys zs z p e = (p.0 ++ z ∷ [], sym (append_assoc xs p.0 (z ∷ [])) ∙ (ap (λ w. w ++ z ∷ []) p.1 ∙ sym e))
 
-module _ (h h' : Changes) (slots slots' : List ℕ) (r place number : ℕ) (m : HasOneMore h h' r (variable (variable_count h))) (e : slots' ≡ slots ++ r ∷ []) where
+module _ (h h' : Changes) (slots slots' : List ℕ) (r place number : ℕ) (m : HasOneMore h h' r (variable (variable_count h))) (e : slots'
+    ≡ slots ++ r ∷ []) where
   pub one_new : place ≡ length slots → number ≡ variable_count h → HasNewSlot h' slots' place number
   one_new p n = record {
     cell = r;

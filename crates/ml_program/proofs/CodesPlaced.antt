@@ -49,7 +49,8 @@ pub with_code_there : (ds : List PredicateCodes) (p : Pred) (code : List Instr) 
     filed_place ds p.name p.arity ≡ Some i → slice_get ds i ≡ Some d →
     with_code ds p code ≡ set ds i (record { pred = d.pred; codes = d.codes ++ code ∷ [] })
 with_code_there [] p code i d place at = absurd (cc place)
-with_code_there (e ∷ ds) p code i d place at = by (are_of p.name p.arity e) (filed_place ds p.name p.arity) i refl place at (λ j is at. with_code_there ds p code j d is at)
+with_code_there (e ∷ ds) p code i d place at = by (are_of p.name p.arity e) (filed_place ds p.name p.arity) i refl place at
+    (λ j is at. with_code_there ds p code j d is at)
   where
     by : (b : Bool) (r : Option ℕ) (i : ℕ) → filed_place ds p.name p.arity ≡ r → cond b (Some 0) (option_map suc r) ≡ Some i →
         slice_get (e ∷ ds) i ≡ Some d →

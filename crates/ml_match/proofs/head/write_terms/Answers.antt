@@ -29,7 +29,8 @@ write-requires c =
       met = f.met;
       after = r.1;
       terms = f.terms;
-      writing = subst (λ (x : ℕ). IsWriting c.args.heap.now c.args.slots.now c.args.env c.args.code.now c.args.cells.now.items c.args.to r.1 x c.loop-at.heap c.loop-at.cells.items) e
+      writing = subst (λ (x : ℕ). IsWriting c.args.heap.now c.args.slots.now c.args.env c.args.code.now c.args.cells.now.items c.args.to r.1 x c.loop-at.heap
+          c.loop-at.cells.items) e
           (i.writing r.1 r.2.1.1);
       matches = f.matches;
       early = omega (arith, i.high, c.loop-at-test.true);
@@ -43,7 +44,8 @@ loop-at-preserved c =
       low = omega (arith, c.loop-at-test.true);
       high = omega (arith, i.high);
       writing = λ after s. c.in_ok-write.ensures.built _ _ _ after
-          (subst (λ (x : ℕ). IsWriting c.args.heap.now c.args.slots.now c.args.env c.args.code.now c.args.cells.now.items c.args.to after x c.loop-at.heap c.loop-at.cells.items) e
+          (subst (λ (x : ℕ). IsWriting c.args.heap.now c.args.slots.now c.args.env c.args.code.now c.args.cells.now.items c.args.to after x c.loop-at.heap
+              c.loop-at.cells.items) e
           (i.writing after s)) (omega (arith, i.high, c.loop-at-test.true));
       grown = grows_on _ _ _ i.grown c.in_ok-write.ensures.grown;
       counted = c.in_ok-write.ensures.counted ∙ i.counted;

@@ -8,7 +8,8 @@ abbrev pub invariant-loop-at : goal.invariant-loop-at
 invariant-loop-at l = record {
   low : l.from ≤ l.at;
   high : l.at ≤ l.to;
-  writing : (after : ℕ) → HaveSlotsBelow l.fn.heap l.slots l.env after → IsWriting l.fn.heap l.slots l.env l.code l.fn.cells.items l.to after l.at l.heap l.cells.items;
+  writing : (after : ℕ) → HaveSlotsBelow l.fn.heap l.slots l.env after → IsWriting l.fn.heap l.slots l.env l.code l.fn.cells.items l.to after l.at l.heap
+      l.cells.items;
   grown : Grows l.fn.heap l.heap;
   counted : variable_count l.heap ≡ variable_count l.fn.heap;
 }

@@ -13,7 +13,8 @@ loop-preserved c =
     record {
       many = omega (arith, ap length now, length-append before (c.in_ok-variable.variable ∷ []), i.many);
       made = λ n l. elim (last_or_before n c.loop.counter l) [
-        | inl e ↦ one_new c.loop.heap c.new_var.new.self before c.push.new.self.items _ _ _ one.made now (omega (arith, e, i.many)) (omega (arith, e, i.counted))
+        | inl e ↦ one_new c.loop.heap c.new_var.new.self before c.push.new.self.items _ _ _ one.made now (omega (arith, e, i.many)) (omega
+            (arith, e, i.counted))
         | inr b ↦ still_new c.loop.heap c.new_var.new.self before c.push.new.self.items _ _ _ one.made now (i.made n b) (omega (arith, b, i.counted))
       ];
       counted = omega (arith, one.counted, i.counted);

@@ -32,7 +32,8 @@ returns-in_ok-push-in-None-2-clause-filed c =
     let room : length c.args.filed.now.procedures.items + 1 < 2 ^ 32 = omega (arith, c.in_ok-room_for_one-in-None.ensures, c.len-in-None.ensures, len) in
     let keys = c.args.filed.now.places.keys in
     let p = c.args.pred in
-    let codes : c.push-in-None.new.self.items ≡ c.args.code ∷ [] = c.in_ok-push-in-None.ensures.items ∙ ap (λ cs. cs ++ c.args.code ∷ []) c.new-first.ensures.items in
+    let codes : c.push-in-None.new.self.items ≡ c.args.code ∷ [] = c.in_ok-push-in-None.ensures.items
+        ∙ ap (λ cs. cs ++ c.args.code ∷ []) c.new-first.ensures.items in
     (put_behind keys (keys ++ p ∷ []) c.args.filed.now.procedures.items c.push-in-None-2.new.self.items p p c.args.code
     (record { pred = p; codes = c.push-in-None.new.self }) c.requires.places c.in-None.ensures.index refl refl c.in_ok-push-in-None-2.ensures.items refl codes
     room c.requires.few).filed
@@ -43,7 +44,8 @@ returns-in_ok-push-in-None-2-clause-few c =
     let room : length c.args.filed.now.procedures.items + 1 < 2 ^ 32 = omega (arith, c.in_ok-room_for_one-in-None.ensures, c.len-in-None.ensures, len) in
     let keys = c.args.filed.now.places.keys in
     let p = c.args.pred in
-    let codes : c.push-in-None.new.self.items ≡ c.args.code ∷ [] = c.in_ok-push-in-None.ensures.items ∙ ap (λ cs. cs ++ c.args.code ∷ []) c.new-first.ensures.items in
+    let codes : c.push-in-None.new.self.items ≡ c.args.code ∷ [] = c.in_ok-push-in-None.ensures.items
+        ∙ ap (λ cs. cs ++ c.args.code ∷ []) c.new-first.ensures.items in
     (put_behind keys (keys ++ p ∷ []) c.args.filed.now.procedures.items c.push-in-None-2.new.self.items p p c.args.code
     (record { pred = p; codes = c.push-in-None.new.self }) c.requires.places c.in-None.ensures.index refl refl c.in_ok-push-in-None-2.ensures.items refl codes
     room c.requires.few).few

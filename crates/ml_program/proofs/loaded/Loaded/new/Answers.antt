@@ -16,7 +16,8 @@ link_all-requires c =
     let keys = c.in_ok-places.field-0.places.keys in (
       q,
       map (compiled_in q) ds,
-      tables q ds (subst (λ cs. AreFiled (clauses_seen cs) ds) c.as_slice.ensures c.in_ok-places.ensures.filed) c.in_ok-places.ensures.few c.in_ok-decls.decls keys
+      tables q ds (subst (λ cs. AreFiled (clauses_seen cs) ds) c.as_slice.ensures c.in_ok-places.ensures.filed) c.in_ok-places.ensures.few c.in_ok-decls.decls
+          keys
           c.in_ok-decls.ensures (few_declared c.args.program.now) (preds_are keys c.in_ok-places.field-0.procedures.items c.in_ok-places.ensures.places),
     )
 

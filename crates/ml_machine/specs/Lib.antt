@@ -1,0 +1,9 @@
+pub mod MoreFrames
+pub mod Instructions
+pub mod Positions
+pub mod Steps
+pub mod Taken
+pub mod BallsCaught
+pub mod AnswersGathered
+pub mod Calls
+pub mod Clauses

@@ -1,0 +1,30 @@
+//! The machine: instructions run over a heap and stacks. It stands on the stacks of ml_stack, on
+//! the code of ml_compile and ml_program, and on the laws of the search that asks, of ml_asking.
+//! The layer above makes a `Machine`, and takes one step after another by `go_on`. What carries it:
+//! wherever the machine stands for a move of the search that asks, each step leads by some turns of
+//! that search to a move for which it stands then. So nothing is chosen when a step is proved: it
+//! is said for every move, and the layer above begins with the one that it wants.
+#![tactic(auto)]
+
+mod arguments;
+mod balls;
+mod called;
+mod calls;
+mod clauses;
+mod control;
+mod failing;
+mod findall;
+mod frames;
+mod instruction;
+mod items;
+mod link;
+mod lists;
+mod machine;
+mod position;
+mod running;
+mod step;
+#[cfg(test)]
+mod tests;
+
+pub use machine::Machine;
+pub use position::{Ended, Position, Then};

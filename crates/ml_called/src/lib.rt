@@ -1,10 +1,10 @@
 //! Goals that are called: the checks of arguments on cells, and the code of a body that is made
-//! when it is called.
-//! It stands on the cells of ml_heap, the bodies of ml_search and the compiler. The layer above
-//! checks an argument, makes the raised term of a fault, and runs the code of `compile_called` in
-//! an environment whose slots begin where `slots` ended. What carries it: the control constructs of a
-//! term don't depend on the terms in it, so each of these becomes a variable, and no argument is
-//! copied. No call recurs over cells; the compiler recurs over the outline of the term.
+//! when it is called. It stands on the cells of ml_heap, the bodies of ml_search and the compiler.
+//! The layer above checks an argument, makes the raised term of a fault, and runs the code of
+//! `compile_called` in an environment whose slots begin where `slots` ended. What carries it: the
+//! control constructs of a term don't depend on the terms in it, so each of these becomes a
+//! variable, and no argument is copied. No call recurs over cells; the compiler recurs over the
+//! outline of the term.
 #![tactic(auto)]
 
 mod call;

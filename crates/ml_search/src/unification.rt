@@ -1,7 +1,7 @@
 //! The unifier of two terms, and whether there is one. In reading order: pairs of terms that are to
-//! be made equal, bindings, whether a variable stands in a term, what is done with one equation, the
-//! loop over all of them, the terms of the map that bindings stand for, and the map, with what it
-//! makes of other terms.
+//! be made equal, bindings, whether a variable stands in a term, what is done with one equation,
+//! the loop over all of them, the terms of the map that bindings stand for, and the map, with what
+//! it makes of other terms.
 ghost use Rattle.std.specs.Prelude.{◌≡◌, ◌↔◌, IsTrue, IfOk};
 ghost use Rattle.std.specs.Option.{is_some, option_map};
 ghost use Rattle.ml_search.specs.MapSeen.{map_seen};

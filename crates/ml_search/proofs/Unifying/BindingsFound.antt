@@ -16,7 +16,8 @@ IsFound n es r = MatchOption r (bound_term (bindings_of es) n ≡ None) (λ to. 
 
 pub bound_is_found : (n : ℕ) (es : List (ℕ × Shifted)) → IsFound n es (lookup (nat_eq n) es)
 bound_is_found n [] = refl
-bound_is_found n (e ∷ es) = subst (λ b. IsFound n (e ∷ es) (cond b (Some e.1) (lookup (nat_eq n) es))) (equal_swapped e.0 n) (by (e.0 == n) (bound_is_found n es))
+bound_is_found n (e ∷ es) = subst (λ b. IsFound n (e ∷ es) (cond b (Some e.1) (lookup (nat_eq n) es))) (equal_swapped e.0 n) (by (e.0 == n)
+    (bound_is_found n es))
   where
     by : (b : Bool) → IsFound n es (lookup (nat_eq n) es) →
         MatchOption (cond b (Some e.1) (lookup (nat_eq n) es)) (cond b (Some (tree_of e.1)) (bound_term (bindings_of es) n) ≡ None)
@@ -55,7 +56,8 @@ not_the_first k n (b ∷ es) t h e = elim (eqb_tells b.0 n) [
   | inr q ↦ not_the_first k n es t h.1 (ap (λ c. cond c (Some (tree_of b.1)) (bound_term (bindings_of es) n)) (sym q.0) ∙ e)
 ]
 
-pub further_is_found : (k n : ℕ) (to : Shifted) (es : List (ℕ × Shifted)) (t : Tree) → IsDistinct nat_eq (keys_of ((k, to) ∷ es)) → bound_term (bindings_of es) n ≡ Some t →
+pub further_is_found : (k n : ℕ) (to : Shifted) (es : List (ℕ × Shifted)) (t : Tree) → IsDistinct nat_eq (keys_of ((k, to) ∷ es)) →
+    bound_term (bindings_of es) n ≡ Some t →
     bound_term (bindings_of ((k, to) ∷ es)) n ≡ Some t
 unfolding IsDistinct
 further_is_found k n to es t h e = ap (λ c. cond c (Some (tree_of to)) (bound_term (bindings_of es) n)) (not_the_first k n es t h.0 e) ∙ e
@@ -75,7 +77,8 @@ all_more : (most : ℕ) (es : List (ℕ × Shifted)) (e : ℕ × Shifted) → ar
     → are_sound_bindings most (es ++ e ∷ []) ≡ true
 all_more most [] e h s = and_from _ _ s refl
 all_more most (f ∷ es) e h s =
-    let parts = and_parts (nat_lt f.0 (most + 2 ^ 32) && is_sound most f.1) (are_sound_bindings most es) h in and_from _ _ parts.0 (all_more most es e parts.1 s)
+    let parts = and_parts (nat_lt f.0 (most + 2 ^ 32) && is_sound most f.1) (are_sound_bindings most es) h in and_from _ _ parts.0
+    (all_more most es e parts.1 s)
 
 pub sound_with_one_more : (most : ℕ) (es es' : List (ℕ × Shifted)) (n : ℕ) (to : Shifted) → es' ≡ es ++ (n, to) ∷ [] → are_sound_bindings most es ≡ true →
     (nat_lt n (most + 2 ^ 32) && is_sound most to) ≡ true → are_sound_bindings most es' ≡ true

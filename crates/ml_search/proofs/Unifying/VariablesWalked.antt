@@ -175,7 +175,8 @@ taken_longer ms ns i n at =
 
 module _ (bs : Map) (v : ℕ) (t : Tree) (i n : ℕ) (ms : List ℕ) (w : Walk bs v t i ms) (at : slice_get ms i ≡ Some n) where
   -- the variable is bound
-  pub walk_passes_bound : (u : Tree) (ms' : List ℕ) → IsTriangular bs → bound_term bs n ≡ Some u → ms' ≡ variables_met ms (variables u) → Walk bs v t (i + 1) ms'
+  pub walk_passes_bound : (u : Tree) (ms' : List ℕ) → IsTriangular bs → bound_term bs n ≡ Some u → ms' ≡ variables_met ms (variables u) →
+      Walk bs v t (i + 1) ms'
   walk_passes_bound u ms' h e more =
       let kept : (k : ℕ) → In k ms → In k ms' = λ k j. subst (In k) (sym more) (stays_met k ms (variables u) j) in
       let here : IsWalked bs v ms' n = record {

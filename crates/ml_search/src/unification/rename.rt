@@ -85,7 +85,8 @@ fn renumber_all(
         (list_all (λ n. has n met.now.keys) (variables_of (trees_of (all_seen ts.now)))) }
     requires room { first + length met.now.keys ≤ 2 ^ 32 }
     ensures same { IfOk result (λ us. trees_of (all_seen us.items) ≡
-        substitute_in (λ n. variable (first + place_in met.now.keys n)) (trees_of (all_seen ts.now))) }
+        substitute_in (λ n. variable (first + place_in met.now.keys n))
+        (trees_of (all_seen ts.now))) }
     ensures valid { IfOk result (λ us. IsTrue (are_valid (trees_of (all_seen us.items)))) }
     ensures count { IfOk result (λ us. length us.items ≡ length ts.now) }
 {

@@ -83,7 +83,7 @@ module _ (h : Changes) where
     -- a goal is outlined
     pub walk_outlines : (at env : ℕ) (slots' : List ℕ) (a : Term) → IsWalking h old want frames slots (Enter at) → env ≡ length old
         → HasCells h slots slots' (parts (stands_for h at)) → seen a ≡ outline (length slots - env) (stands_for h at) →
-            IsWalking h old want frames slots' (Outlined a)
+        IsWalking h old want frames slots' (Outlined a)
     walk_outlines at env slots' a w e c s =
         let n : length slots - env ≡ length w.terms = omega (arith, how_many h old slots w.terms w.cells, e) in
         let is : seen a ≡ outline (length w.terms) (stands_for h at) = s ∙ ap (λ k. outline k (stands_for h at)) n in

@@ -134,7 +134,7 @@ module _ (ps : List CompiledProcedure) where
         let r : List ChoicePoint = last_of h f.w.choice_points in
         let unified : unifier (rename count (seen ball)) g.catcher ≡ Some so.map =
         ap (λ x. unifier (rename x (seen ball)) g.catcher) (sym counted) ∙ ap (λ x. unifier (rename (variable_count N.heap) (seen ball)) x) (sym
-            (catcher_there g))
+        (catcher_there g))
         ∙ so.unified in
         let b : Branch Member = with_map so.map (record { goals = run_body (call g.recovery) h g.saved; terms = g.terms; next = count + width (seen ball) }) in
         let stacked : Stacked ps t.memory low =
@@ -149,8 +149,11 @@ module _ (ps : List CompiledProcedure) where
           follows = no_turn p v _ (f.is ∙ ap (λ gs. throw_move (seen ball) count gs f.w.choice_points f.m) g.is
               ∙ caught_so (seen ball) count h g.catcher g.recovery g.saved g.terms g.behind f.w.choice_points f.m so.map unified);
           is_at = at_call {b = b}
-              (stacks_change ps (last_of h f.w.choices) (branch_choice b ∷ r) r keeps (record { seen = (cuts f.w
-                  (choices_of ps f.behind)).seen; stacked = stacked }) f.behind)
+              (stacks_change ps (last_of h f.w.choices) (branch_choice b ∷ r) r keeps (record {
+                seen = (cuts f.w
+                    (choices_of ps f.behind)).seen;
+                stacked = stacked;
+              }) f.behind)
               refl (record { terms = terms; next = ap (λ x. x + width (seen ball)) (sym counted) ∙ sym so.counted })
               (tree_grows so.grown (tree_stays grown g.recovery_is)) refl goals refl;
         }
@@ -164,7 +167,7 @@ module _ (ps : List CompiledProcedure) where
         let r : List ChoicePoint = last_of h f.w.choice_points in
         let unlike : unifier (rename count (seen ball)) g.catcher ≡ None =
         ap (λ x. unifier (rename x (seen ball)) g.catcher) (sym counted) ∙ ap (λ x. unifier (rename (variable_count N.heap) (seen ball)) x) (sym
-            (catcher_there g))
+        (catcher_there g))
         ∙ fails.unlike in
         let stacked : Stacked ps t.memory low =
         subst (λ X. Stacked ps X low) (sym fails.same) (stacked_grows ps (memory_of s.memory n) N [] low grown g.stacked) in
@@ -178,8 +181,11 @@ module _ (ps : List CompiledProcedure) where
           follows = no_turn p v _ (f.is ∙ ap (λ gs. throw_move (seen ball) count gs f.w.choice_points f.m) g.is
               ∙ not_caught (seen ball) count h g.catcher g.recovery g.saved g.terms g.behind f.w.choice_points f.m unlike);
           is_at = at_ball {m = f.m}
-              (stacks_change ps (last_of h f.w.choices) f.m.choice_points r keeps (record { seen = (cuts f.w
-                  (choices_of ps f.behind)).seen; stacked = stacked }) f.behind)
+              (stacks_change ps (last_of h f.w.choices) f.m.choice_points r keeps (record {
+                seen = (cuts f.w
+                    (choices_of ps f.behind)).seen;
+                stacked = stacked;
+              }) f.behind)
               f.valid goals (ap (λ x. throw_move (seen ball) x g.saved r f.m) same_count);
         }
 

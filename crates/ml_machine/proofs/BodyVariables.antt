@@ -34,7 +34,7 @@ any_of : (n : ℕ) (ts : Trees) → list_any (occurs n) (list_of ts) ≡ true �
 any_of n no_trees e = e
 any_of n (tree t ts) e =
     either_way (occurs n t) (list_any (occurs n) (list_of ts)) e (λ l. has_front n (variables t) (variables_of ts) l) (λ r. has_back n (variables t)
-        (variables_of ts) (any_of n ts r))
+    (variables_of ts) (any_of n ts r))
 
 of_both : (h : Body → Type 0) (b : Bool) (x y : Body) → h x → h y → h (cond b x y)
 of_both h true x y l r = l
@@ -99,7 +99,7 @@ body_variable n (compound f (tree t (tree u (tree v no_trees)))) e =
     let some : (occurs n t || (occurs n u || occurs n v)) ≡ true → goal =
     λ o. either_way (occurs n t) (occurs n u || occurs n v) o (λ a. has_front n (variables t) _ a)
     (λ r. has_back n (variables t) _ (either_way (occurs n u) (occurs n v) r (λ b. has_front n (variables u) _ b) (λ c. has_back n (variables u) _
-        (has_front n (variables v) [] c)))) in
+    (has_front n (variables v) [] c)))) in
     of_both h (bytes_eq f (codes "findall")) _ _ some (of_both h (bytes_eq f (codes "catch")) _ _ some (any_of n (tree t (tree u (tree v no_trees))))) e
 body_variable n (compound f (tree t (tree u (tree v (tree w ts))))) e = any_of n (tree t (tree u (tree v (tree w ts)))) e
 

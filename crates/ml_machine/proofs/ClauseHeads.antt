@@ -81,7 +81,7 @@ pub head_of_clause : (program : Program) (d : CompiledProcedure) (i : ℕ) (c : 
     drop i d.clauses ≡ c ∷ cs → IsGoalTerm d.name d.arity c.head
 head_of_clause program d i c cs p k e =
     let all : list_all is_clause program.clauses ≡ true = (and_parts _ (list_all is_clause program.clauses) (and_parts _
-        (are_undeclared program.decls program.clauses) p).0).1 in
+    (are_undeclared program.decls program.clauses) p).0).1 in
     let fit : Fit d.name d.arity (c ∷ cs) =
     subst (λ xs. Fit d.name d.arity xs) e
     (dropped_fit d.name d.arity i d.clauses

@@ -96,7 +96,7 @@ module _ (p : Program) (ps : List CompiledProcedure) where
       (goes_on : (w : View) (n : ℕ) (gs : Continuation Member) → EndsBehind ps s.memory a end ends → Runs ps s.memory w n (further a end) gs →
       Continues ps N w n behind gs)
       (pushed : Pushes ps O s.stacks.choices.items t.stacks.choices.items link) (c : Choice) (more : t.stacks.choices.items
-          ≡ s.stacks.choices.items ++ c ∷ []) where
+      ≡ s.stacks.choices.items ++ c ∷ []) where
     pub after_choose : HasInstruction ps s.memory a (Choose second third end) → EndsBehind ps s.memory a end ends →
         StepsTo p ps s (RunsAt a) t (Goes (RunsAt (block_at a 1 (suc height) decided)))
     after_choose h ended written v i =
@@ -115,7 +115,7 @@ module _ (p : Program) (ps : List CompiledProcedure) where
         let to_O : HasMoreFrames s.memory O = more_frames s.memory N O grown f1 in
         let to_t : HasMoreFrames s.memory t.memory = more_frames s.memory O t.memory to_O (more_frames O P t.memory f2 f3) in
         let rest : Runs ps s.memory w a.height (further a end) g.behind = subst (λ q. Runs ps s.memory w a.height
-            (record a { place = q }) g.behind) k.end_is g.rest in
+        (record a { place = q }) g.behind) k.end_is g.rest in
         let behind_N : Continues ps N w a.height behind g.behind = goes_on w a.height g.behind ended rest in
         let behind_O : Continues ps O w a.height behind g.behind = link_stays ps f1 behind_N in
         let slots = all_slots a.env k.is g.slots in
@@ -153,7 +153,7 @@ module _ (p : Program) (ps : List CompiledProcedure) where
   module _ (s t : Machine) (keeps : KeepsOthers s t) (a otherwise outcome condition : At) (second third end : ℕ) (ends : Bool) (N O P : Contents)
       (height up behind link taken decided : ℕ)
       (grown : HasMoreFrames s.memory N) (is_otherwise : otherwise ≡ block_at a third a.height behind) (is_outcome : outcome
-          ≡ block_at a second a.height behind)
+      ≡ block_at a second a.height behind)
       (is_condition : condition ≡ block_at a 1 up decided) (is_up : up ≡ length t.stacks.choices.items)
       (is_O : O ≡ with_frame N (BodyFrame otherwise)) (is_link : link ≡ length N.frames + 1)
       (is_P : P ≡ with_frame O (BodyFrame outcome)) (is_taken : taken ≡ length O.frames + 1)
@@ -162,12 +162,12 @@ module _ (p : Program) (ps : List CompiledProcedure) where
       (goes_on : (w : View) (n : ℕ) (gs : Continuation Member) → EndsBehind ps s.memory a end ends → Runs ps s.memory w n (further a end) gs →
       Continues ps N w n behind gs)
       (pushed : Pushes ps O s.stacks.choices.items t.stacks.choices.items link) (more : (c : Choice) × (t.stacks.choices.items
-          ≡ s.stacks.choices.items ++ c ∷ [])) where
+      ≡ s.stacks.choices.items ++ c ∷ [])) where
     pub after_choose_calls : HasInstruction ps s.memory a (Choose second third end) → EndsBehind ps s.memory a end ends →
         StepsTo p ps s (RunsAt a) t (Goes (RunsAt condition))
     after_choose_calls h ended =
         let one_up : up ≡ suc height = omega (arith, is_up, is_height, ap length more.1, length-append s.stacks.choices.items (more.0 ∷ [])) in
         subst (λ x. StepsTo p ps s (RunsAt a) t (Goes (RunsAt x))) (sym (is_condition ∙ ap (λ x. block_at a 1 x decided) one_up))
         (after_choose s t keeps a second third end ends N O P height behind link taken decided grown (is_O
-            ∙ ap (λ x. with_frame N (BodyFrame x)) is_otherwise) is_link
+        ∙ ap (λ x. with_frame N (BodyFrame x)) is_otherwise) is_link
         (is_P ∙ ap (λ x. with_frame O (BodyFrame x)) is_outcome) is_taken is is_decided is_height goes_on pushed more.0 more.1 h ended)

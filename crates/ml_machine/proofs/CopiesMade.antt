@@ -66,7 +66,7 @@ one_copied answers h k l rs cs ds i j r copy fs a e next c made count is =
     let all : all_of (take j fs) ≡ ts ++ at.answer ∷ [] = ap all_of more ∙ all_more (take i fs) at.answer in
     let tree_is : stands_for l copy ≡ rename (next_after n ts) at.answer =
     made.stands ∙ ap (rename (variable_count k)) at.copy.is ∙ renamed_again (variable_count k) at.copy.from at.answer
-        ∙ ap (λ x. rename x at.answer) c.counted in
+    ∙ ap (λ x. rename x at.answer) c.counted in
     let inside : AreCells (cell_count l) (cs ++ copy ∷ []) =
     one_wider (cell_count l) cs copy (wider (cell_count k) (cell_count l) cs made.grown.cells c.inside) made.inside in
     record {

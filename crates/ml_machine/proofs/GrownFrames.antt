@@ -24,8 +24,11 @@ use Rattle.ml_machine.specs.MoreFrames.{with_frames, HasMoreFrames}
 use Rattle.ml_machine.specs.Instructions.{block_at}
 
 pub no_more_frames : (M : Contents) → HasMoreFrames M M
-no_more_frames M = record { frames = []; is = ap (λ fs. record { heap = M.heap; frames = fs; slots = M.slots; saved = M.saved; codes = M.codes }) (sym
-    (append-nil M.frames)) }
+no_more_frames M = record {
+  frames = [];
+  is = ap (λ fs. record { heap = M.heap; frames = fs; slots = M.slots; saved = M.saved; codes = M.codes }) (sym
+      (append-nil M.frames));
+}
 
 pub one_frame : (M N : Contents) (f : Frame) → N ≡ with_frame M f → HasMoreFrames M N
 one_frame M N f e = record { frames = f ∷ []; is = e }

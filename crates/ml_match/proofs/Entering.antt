@@ -180,7 +180,7 @@ module _ (code : List Instr) (h h1 h2 h3 : Changes) (slots slots' args todo : Li
       let u = some (mgu es) e in
       let carried : Carries h2 h3 u.0 = k u.0 u.1 in
       let all : Carries h h3 u.0 = carries_go_on h h1 h3 [] u.0 (carries_grown h h1 grown) (carries_go_on h1 h2 h3 [] u.0
-          (carries_grown h1 h2 grown2) carried) in
+      (carries_grown h1 h2 grown2) carried) in
       let later : Carries h1 h3 u.0 = carries_go_on h1 h2 h3 [] u.0 (carries_grown h1 h2 grown2) carried in
       record {
         counted = counted;
@@ -236,7 +236,7 @@ module _ (code instrs : List Instr) (is : instrs ≡ code) (c : Clause) (s : Spe
 
     module _ (h2 : Changes) (cleared todo : List ℕ) (clear : cleared ≡ []) (inside : AreCells (cell_count h) args)
         (added : length slots' ≡ length slots + wide) (counted1 : variable_count h1 ≡ variable_count h + wide) (counted2 : variable_count h2
-            ≡ variable_count h1)
+        ≡ variable_count h1)
         (grown : Grows h h1) (grown2 : Grows h1 h2)
         (built : (met after : ℕ) (ts : List Tree) → Matches instrs 1 place met ts after → HaveSlotsBelow h1 shown env after
         → HasBuilt h2 cleared todo (map (substitute (slot_tree h1 shown env)) (reverse ts))) where
@@ -272,11 +272,11 @@ module _ (code instrs : List Instr) (is : instrs ≡ code) (c : Clause) (s : Spe
         pub when_none : ok ≡ false → HasEntered code h h3 slots slots' c (map (stands_for h) args) None
         when_none e =
             entered_none code h h1 h2 h3 slots slots' args todo place c s many inside added_all made_all
-                (counted_all h3 counted3) grown grown2 built_here place_is
+            (counted_all h3 counted3) grown grown2 built_here place_is
             (sym e ∙ found)
 
         pub when_some : ok ≡ true → HasEntered code h h3 slots slots' c (map (stands_for h) args) (Some place)
         when_some e =
             entered_some code h h1 h2 h3 slots slots' args todo place c s many inside added_all made_all
-                (counted_all h3 counted3) grown grown2 built_here place_is
+            (counted_all h3 counted3) grown grown2 built_here place_is
             (sym e ∙ found) carried

@@ -64,8 +64,14 @@ next_compound f n s c (atom_built s' b) = absurd (cc (s, s'))
 next_compound {code} {p} {q} {us} {ts} f n s c (compound_built {n = m} {f = g} xs args s' l e b) =
     let en : m ≡ n = cc (s, s') in
     let ef : g ≡ f = cc (s, s') in
-    record { others = xs; args = args; many = l ∙ en; parts = e; left = subst (λ (x : List ℕ). Builds code (p + 1) q (xs ++ compound x
-        (trees_of args) ∷ []) ts) ef b }
+    record {
+      others = xs;
+      args = args;
+      many = l ∙ en;
+      parts = e;
+      left = subst (λ (x : List ℕ). Builds code (p + 1) q (xs ++ compound x
+          (trees_of args) ∷ []) ts) ef b;
+    }
 
 no_more : {code : List Instr} {p q : ℕ} {us ts : List Tree} → IsCallAt code p → Builds code p q us ts → (p ≡ q) × (us ≡ ts)
 no_more c nothing_built = (refl, refl)
@@ -135,8 +141,14 @@ in_parts f (q ∷ qs) (x ∷ xs) ys e =
     let p = in_parts f qs xs ys (cc e) in
     let head : f q ≡ x = cc e in
     let rest : map f p.front ≡ xs = p.fronts in
-    record { front = q ∷ p.front; back = p.back; parts = ap (λ rs. q ∷ rs) p.parts; fronts = ap (λ y. y ∷ map f p.front) head
-        ∙ ap (λ zs. x ∷ zs) rest; backs = p.backs }
+    record {
+      front = q ∷ p.front;
+      back = p.back;
+      parts = ap (λ rs. q ∷ rs) p.parts;
+      fronts = ap (λ y. y ∷ map f p.front) head
+          ∙ ap (λ zs. x ∷ zs) rest;
+      backs = p.backs;
+    }
 
 module _ (old : Changes) (slots : List ℕ) (env : ℕ) (code : List Instr) (before : List ℕ) (q : ℕ) (ts : List Tree) (at : ℕ) (h : Changes) (cells : List ℕ)
     (b : IsBuilding old slots env code before q ts at h cells) where
@@ -244,7 +256,7 @@ module _ (old : Changes) (slots : List ℕ) (env : ℕ) (code : List Instr) (bef
           grown = grows_on old h h' b.grown g;
           built = subst (HasBuilt h' before cells') (sym (map-append (substitute s) next.others (t ∷ [])))
               (built_more h h' before (before ++ cut.front) cells' (map (substitute s) next.others) (substitute s t) r fronts g e
-                  (one_inside h h' r _ m) stands);
+              (one_inside h h' r _ m) stands);
         }
 
   -- at the call

@@ -153,7 +153,7 @@ module _ (old : Changes) (slots : List ℕ) (env : ℕ) (code : List Instr) (bef
         one_stands h h' r _ o
         ∙ ap (compound f) (ap trees_of turned_back ∙ (sym (substituted_trees s args) ∙ ap (substitute_in s) (trees_listed c.args))) in
         let b = built_more h h' before (before ++ cut.front) cells' (map (substitute s) (reverse c.rest)) (substitute s t) r fronts g e
-            (one_inside h h' r _ o) stands in
+        (one_inside h h' r _ o) stands in
         subst (HasBuilt h' before cells')
         (sym (map-append (substitute s) (reverse c.rest) (t ∷ [])) ∙ ap (map (substitute s)) (sym (turned t c.rest) ∙ ap reverse (sym c.is))) b
 

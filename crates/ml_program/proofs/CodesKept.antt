@@ -58,7 +58,7 @@ written_back keys xs p code i x y same place within at pred codes room few =
     let inside : i < length xs = omega (arith, ap length same, length-map xs (λ (q : Procedure). q.pred), within) in
     let there : slice_get xs i ≡ Some x = slice_get_read xs (length xs) i x refl inside at in
     let seen_there : slice_get (procedures_seen xs) i ≡ Some (procedure_seen x) = slice_get-map procedure_seen xs i
-        ∙ ap (λ o. option_map procedure_seen o) there in
+    ∙ ap (λ o. option_map procedure_seen o) there in
     let put : procedures_seen (set xs i y) ≡ set (procedures_seen xs) i (record { pred = x.pred; codes = x.codes.items ++ code ∷ [] }) =
     map-set procedure_seen xs i y ∙ ap (set (procedures_seen xs) i) (seen_so x y code pred codes) in
     record {

@@ -39,7 +39,7 @@ module _ (program : Program) (ps : List CompiledProcedure) (f : List ℕ) (n : �
       sym (tables_say
       ∙ ap (λ o.
       by_tables o (is_plain f n) (is_some (store_call f n)) (declaration_of program.decls f n) (unwrap_or (place_of program.decls f n) 0)
-          (is_defined program f n)
+      (is_defined program f n)
       (store_call f n) (unwrap_or (procedure_place ps f n) 0)) e)
 
   module _ (free : control_call f n ≡ None) where
@@ -107,14 +107,14 @@ module _ (program : Program) (ps : List CompiledProcedure) (f : List ℕ) (n : �
             procedure_link p e =
                 sym (unless_declared
                 ∙ ap (λ c. by_tables None false false None (unwrap_or (place_of program.decls f n) 0) c None (unwrap_or (procedure_place ps f n) 0))
-                    (sym defined)
+                (sym defined)
                 ∙ ap (λ o. by_tables None false false None (unwrap_or (place_of program.decls f n) 0) (is_some o) None (unwrap_or o 0)) e)
 
             pub unknown_link : procedure_place ps f n ≡ None → Unknown ≡ link_of program ps f n
             unknown_link e =
                 sym (unless_declared
                 ∙ ap (λ c. by_tables None false false None (unwrap_or (place_of program.decls f n) 0) c None (unwrap_or (procedure_place ps f n) 0))
-                    (sym defined)
+                (sym defined)
                 ∙ ap (λ o. by_tables None false false None (unwrap_or (place_of program.decls f n) 0) (is_some o) None (unwrap_or o 0)) e)
 
 -- a declaration is found where its place is

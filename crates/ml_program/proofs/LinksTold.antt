@@ -66,8 +66,11 @@ by_declared (Some d) s k p kind' j e = absurd (cc e)
 by_declared None of_plain k p kind' j e = absurd (cc e)
 by_declared None of_store (Some x) p kind' j e = absurd (cc e)
 by_declared None of_store None p kind' j e = absurd (cc e)
-by_declared None (of_declared kind d) k p kind' j e = let same : kind ≡ kind' = cc e in let place : d ≡ j = cc e in (refl, ap (λ q. of_declared q d) same
-    ∙ ap (of_declared kind') place)
+by_declared None (of_declared kind d) k p kind' j e = let same : kind ≡ kind' = cc e in let place : d ≡ j = cc e in (
+  refl,
+  ap (λ q. of_declared q d) same
+      ∙ ap (of_declared kind') place,
+)
 by_declared None of_program k p kind' j e = absurd (cc e)
 by_declared None of_nothing k p kind' j e = absurd (cc e)
 

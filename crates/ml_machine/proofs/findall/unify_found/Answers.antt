@@ -23,7 +23,7 @@ before c = record {
 
 listed : (c : In_ok-alike) (fs : List (List Tree)) → AreCopies c.args.answers.now c.args.end.now.found.items fs →
     IsListed (before c) c.copy_found.new.heap c.make_list.new.heap c.unify.new.self c.in_ok-cells.cells.items c.args.end.now.list c.in_ok-made.made fs
-        c.in_ok-alike.alike
+    c.in_ok-alike.alike
 listed c fs a = record {
   inside = subst (λ (M : Contents). c.args.end.now.list < cell_count M.heap) (sym c.memory.view_is) c.requires.list;
   copied = c.in_ok-cells.ensures fs (subst (λ rs. AreCopies c.args.answers.now rs fs) (sym c.as_slice.ensures.value) a);

@@ -56,17 +56,17 @@ unify_all-requires c =
           c.args.heap.now c.create_variables.new.heap c.args.slots.now.items c.create_variables.new.slots.items c.deref.result.now c.len-env.result
           c.width_of.result c.end_of_terms-body.result c.deref.ensures.value at c.width_of.ensures v.made c.end_of_terms-body.ensures
           c.write_terms.new.heap c.truncate.new.self.items c.write_terms.new.cells.items c.truncate.ensures.items c.requires.inside v.many v.counted t.counted
-              v.grown t.grown t.built;
+          v.grown t.grown t.built;
       args_inside = given_inside c.args.code.now c.args.code.now refl r.0 r.1.0 c.args.args.now r.1.1
           c.args.heap.now c.create_variables.new.heap c.args.slots.now.items c.create_variables.new.slots.items c.deref.result.now c.len-env.result
           c.width_of.result c.end_of_terms-body.result c.deref.ensures.value at c.width_of.ensures v.made c.end_of_terms-body.ensures
           c.write_terms.new.heap c.truncate.new.self.items c.write_terms.new.cells.items c.truncate.ensures.items c.requires.inside v.many v.counted t.counted
-              v.grown t.grown t.built;
+          v.grown t.grown t.built;
       others_inside = others_inside c.args.code.now c.args.code.now refl r.0 r.1.0 c.args.args.now r.1.1
           c.args.heap.now c.create_variables.new.heap c.args.slots.now.items c.create_variables.new.slots.items c.deref.result.now c.len-env.result
           c.width_of.result c.end_of_terms-body.result c.deref.ensures.value at c.width_of.ensures v.made c.end_of_terms-body.ensures
           c.write_terms.new.heap c.truncate.new.self.items c.write_terms.new.cells.items c.truncate.ensures.items c.requires.inside v.many v.counted t.counted
-              v.grown t.grown t.built;
+          v.grown t.grown t.built;
     }
 
 pub returns-in_err-unify_all-clause-marks : goal.returns-in_err-unify_all-clause-marks
@@ -98,7 +98,7 @@ returns-then-branch-clause-entered c k s many =
     c.args.heap.now c.create_variables.new.heap c.args.slots.now.items c.create_variables.new.slots.items c.deref.result.now c.len-env.result
     c.width_of.result c.end_of_terms-body.result c.deref.ensures.value at c.width_of.ensures v.made c.end_of_terms-body.ensures
     c.write_terms.new.heap c.truncate.new.self.items c.write_terms.new.cells.items c.truncate.ensures.items c.requires.inside v.many v.counted t.counted
-        v.grown t.grown t.built
+    v.grown t.grown t.built
     c.unify_all.new.heap u.counted c.in_ok-unify_all.field-0 u.found u.carried ok
 
 pub returns-else-branch-clause-entered : goal.returns-else-branch-clause-entered
@@ -112,5 +112,5 @@ returns-else-branch-clause-entered c k s many =
     c.args.heap.now c.create_variables.new.heap c.args.slots.now.items c.create_variables.new.slots.items c.deref.result.now c.len-env.result
     c.width_of.result c.end_of_terms-body.result c.deref.ensures.value at c.width_of.ensures v.made c.end_of_terms-body.ensures
     c.write_terms.new.heap c.truncate.new.self.items c.write_terms.new.cells.items c.truncate.ensures.items c.requires.inside v.many v.counted t.counted
-        v.grown t.grown t.built
+    v.grown t.grown t.built
     c.unify_all.new.heap u.counted c.in_ok-unify_all.field-0 u.found u.carried no

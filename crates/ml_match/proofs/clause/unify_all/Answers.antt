@@ -53,8 +53,12 @@ ends : (es : List Equation) (old h : Changes) (ps others : List ℕ) (i : ℕ) �
     → mgu es ≡ Some s.map_so_far
 ends es old h ps others i l s =
     let e : pairs h (drop i ps) (reverse others) ≡ [] = ap (λ xs. pairs h xs (reverse others)) (drop_all i ps l) in
-    solving_ends es old h (record { map_so_far = s.map_so_far; carried = s.carried; solved = subst (λ fs. mgu es
-        ≡ solve_equations fs s.map_so_far) e s.solved })
+    solving_ends es old h (record {
+      map_so_far = s.map_so_far;
+      carried = s.carried;
+      solved = subst (λ fs. mgu es
+          ≡ solve_equations fs s.map_so_far) e s.solved;
+    })
 
 pub loop-arg-init : goal.loop-arg-init
 loop-arg-init c = record {
@@ -113,11 +117,11 @@ loop-arg-preserved c =
 pub returns-clause-found : goal.returns-clause-found
 returns-clause-found c = is_one _ _ (ends (pairs c.args.heap.now c.args.args.now
     (reverse c.args.others.now.items)) c.args.heap.now c.loop-arg.heap c.args.args.now c.loop-arg.others.items c.loop-arg.arg-index c.loop-arg-test.false
-        c.loop-arg.invariant.solving)
+    c.loop-arg.invariant.solving)
 
 pub returns-clause-carried : goal.returns-clause-carried
 returns-clause-carried c m e =
     let f = ends (pairs c.args.heap.now c.args.args.now (reverse c.args.others.now.items)) c.args.heap.now c.loop-arg.heap c.args.args.now
-        c.loop-arg.others.items c.loop-arg.arg-index c.loop-arg-test.false c.loop-arg.invariant.solving in
+    c.loop-arg.others.items c.loop-arg.arg-index c.loop-arg-test.false c.loop-arg.invariant.solving in
     let same : c.loop-arg.invariant.solving.map_so_far ≡ m = cc (e, f) in
     subst (Carries c.args.heap.now c.loop-arg.heap) same c.loop-arg.invariant.solving.carried

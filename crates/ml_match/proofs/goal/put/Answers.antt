@@ -25,7 +25,7 @@ offset_bounds-code-at c =
 pub overflow_add-env : goal.overflow_add-env
 overflow_add-env c =
     let lt : c.args.env + c.in-PutVar.n < length c.args.slots.now = slot_within c.requires.known.0 c.args.slots.now _
-        (slot_here _ _ _ _ _ _ _ _ _ _ c.requires.known.1.1.1.1 c.index-code-at.result c.in-PutVar.n c.index-code-at.is c.in-PutVar.is) in
+    (slot_here _ _ _ _ _ _ _ _ _ _ c.requires.known.1.1.1.1 c.index-code-at.result c.in-PutVar.n c.index-code-at.is c.in-PutVar.is) in
     search rules
 
 pub bounds-slots-env : goal.bounds-slots-env
@@ -35,7 +35,7 @@ bounds-slots-env c = slot_within c.requires.known.0 c.args.slots.now _
 pub offset_bounds-slots-env : goal.offset_bounds-slots-env
 offset_bounds-slots-env c =
     let lt : c.args.env + c.in-PutVar.n < length c.args.slots.now = slot_within c.requires.known.0 c.args.slots.now _
-        (slot_here _ _ _ _ _ _ _ _ _ _ c.requires.known.1.1.1.1 c.index-code-at.result c.in-PutVar.n c.index-code-at.is c.in-PutVar.is) in
+    (slot_here _ _ _ _ _ _ _ _ _ _ c.requires.known.1.1.1.1 c.index-code-at.result c.in-PutVar.n c.index-code-at.is c.in-PutVar.is) in
     search rules
 
 pub join_last-requires : goal.join_last-requires
@@ -67,7 +67,7 @@ returns-in_ok-push-in-PutVar-clause-built c old before q ts b =
     c.push.new.self.items c.in-PutVar.n c.index-slots-env.result
     (reads c.args.code.now c.args.at c.index-code-at.result _ (place_inside _ _ _ _ _ _ _ _ _ _ b) (sym c.index-code-at.is ∙ c.in-PutVar.is))
     (get_or_read c.args.slots.now _ _ (slot_within old c.args.slots.now _
-        (slot_here _ _ _ _ _ _ _ _ _ _ b c.index-code-at.result c.in-PutVar.n c.index-code-at.is c.in-PutVar.is)) c.index-slots-env.is 0)
+    (slot_here _ _ _ _ _ _ _ _ _ _ b c.index-code-at.result c.in-PutVar.n c.index-code-at.is c.in-PutVar.is)) c.index-slots-env.is 0)
     c.in_ok-push-in-PutVar.ensures.items
 
 pub returns-in_ok-push-in-PutInt-clause-built : goal.returns-in_ok-push-in-PutInt-clause-built

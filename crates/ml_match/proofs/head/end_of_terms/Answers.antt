@@ -40,7 +40,7 @@ overflow_add-end c =
     let m = c.loop.invariant r.0 r.1 r.2 r.3.0 r.3.1.0 r.3.1.1 in
     let l : c.loop.end + c.size_at-end.result ≤ length c.args.code.now =
     fits c.args.code.now c.loop.end c.size_at-end.result r.0 m.0 r.2 c.loop.counter r.3.0 (omega
-        (arith, r.3.1.1, c.loop-test.true)) m.1 c.size_at-end.ensures in
+    (arith, r.3.1.1, c.loop-test.true)) m.1 c.size_at-end.ensures in
     search rules
 
 pub loop-preserved : goal.loop-preserved

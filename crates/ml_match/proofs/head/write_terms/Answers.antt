@@ -45,7 +45,7 @@ loop-at-preserved c =
       high = omega (arith, i.high);
       writing = λ after s. c.in_ok-write.ensures.built _ _ _ after
           (subst (λ (x : ℕ). IsWriting c.args.heap.now c.args.slots.now c.args.env c.args.code.now c.args.cells.now.items c.args.to after x c.loop-at.heap
-              c.loop-at.cells.items) e
+          c.loop-at.cells.items) e
           (i.writing after s)) (omega (arith, i.high, c.loop-at-test.true));
       grown = grows_on _ _ _ i.grown c.in_ok-write.ensures.grown;
       counted = c.in_ok-write.ensures.counted ∙ i.counted;

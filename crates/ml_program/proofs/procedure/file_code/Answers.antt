@@ -33,7 +33,7 @@ returns-in_ok-push-in-None-2-clause-filed c =
     let keys = c.args.filed.now.places.keys in
     let p = c.args.pred in
     let codes : c.push-in-None.new.self.items ≡ c.args.code ∷ [] = c.in_ok-push-in-None.ensures.items
-        ∙ ap (λ cs. cs ++ c.args.code ∷ []) c.new-first.ensures.items in
+    ∙ ap (λ cs. cs ++ c.args.code ∷ []) c.new-first.ensures.items in
     (put_behind keys (keys ++ p ∷ []) c.args.filed.now.procedures.items c.push-in-None-2.new.self.items p p c.args.code
     (record { pred = p; codes = c.push-in-None.new.self }) c.requires.places c.in-None.ensures.index refl refl c.in_ok-push-in-None-2.ensures.items refl codes
     room c.requires.few).filed
@@ -45,7 +45,7 @@ returns-in_ok-push-in-None-2-clause-few c =
     let keys = c.args.filed.now.places.keys in
     let p = c.args.pred in
     let codes : c.push-in-None.new.self.items ≡ c.args.code ∷ [] = c.in_ok-push-in-None.ensures.items
-        ∙ ap (λ cs. cs ++ c.args.code ∷ []) c.new-first.ensures.items in
+    ∙ ap (λ cs. cs ++ c.args.code ∷ []) c.new-first.ensures.items in
     (put_behind keys (keys ++ p ∷ []) c.args.filed.now.procedures.items c.push-in-None-2.new.self.items p p c.args.code
     (record { pred = p; codes = c.push-in-None.new.self }) c.requires.places c.in-None.ensures.index refl refl c.in_ok-push-in-None-2.ensures.items refl codes
     room c.requires.few).few

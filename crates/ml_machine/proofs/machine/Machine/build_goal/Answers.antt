@@ -16,16 +16,16 @@ code_of-instrs-requires c =
     let ps = procedures_of c.args.program.now in
     let e = sym c.self.view_is in
     let goal = subst (λ (s : Machine). (instrs : List Instr) → code_of ps s.memory c.args.at.code ≡ Some instrs →
-        IsNoControl instrs c.args.at.place) e c.requires.goal in
+    IsNoControl instrs c.args.at.place) e c.requires.goal in
     some_code (program_of c.args.program.now) ps _ c.args.at goal _ (sym c.as_slice.ensures.value) (subst (λ s. StandsForSome ps s
-        (Runs c.args.at)) e c.requires.stands)
+    (Runs c.args.at)) e c.requires.stands)
 
 pub build-requires : goal.build-requires
 build-requires c =
     let ps = procedures_of c.args.program.now in
     let e = sym c.self.view_is in
     let goal = subst (λ (s : Machine). (instrs : List Instr) → code_of ps s.memory c.args.at.code ≡ Some instrs →
-        IsNoControl instrs c.args.at.place) e c.requires.goal in
+    IsNoControl instrs c.args.at.place) e c.requires.goal in
     some_call (program_of c.args.program.now) ps _ c.args.at goal _ _ _ (sym c.as_slice.ensures.value) c.as_slice-2.ensures.value c.code_of-instrs.ensures
     (subst (λ s. StandsForSome ps s (Runs c.args.at)) e c.requires.stands)
 
@@ -34,9 +34,9 @@ site_at-requires c =
     let ps = procedures_of c.args.program.now in
     let e = sym c.self.view_is in
     let goal = subst (λ (s : Machine). (instrs : List Instr) → code_of ps s.memory c.args.at.code ≡ Some instrs →
-        IsNoControl instrs c.args.at.place) e c.requires.goal in
+    IsNoControl instrs c.args.at.place) e c.requires.goal in
     call_found (program_of c.args.program.now) ps _ c.args.at goal _ _ _ _ _ refl
-        (sym c.as_slice.ensures.value) c.as_slice-2.ensures.value c.code_of-instrs.ensures
+    (sym c.as_slice.ensures.value) c.as_slice-2.ensures.value c.code_of-instrs.ensures
     c.in_ok-place.ensures.place (subst (λ s. StandsForSome ps s (Runs c.args.at)) e c.requires.stands)
 
 pub returns : goal.returns
@@ -44,7 +44,7 @@ returns c written v i =
     let ps = procedures_of c.args.program.now in
     let e = sym c.self.view_is in
     let goal = subst (λ (s : Machine). (instrs : List Instr) → code_of ps s.memory c.args.at.code ≡ Some instrs →
-        IsNoControl instrs c.args.at.place) e c.requires.goal in
+    IsNoControl instrs c.args.at.place) e c.requires.goal in
     has_built (program_of c.args.program.now) ps _ c.args.at goal _ c.site_at.result (record { terms = refl; levels = refl; answers = refl; left = refl }) refl
     _ c.code_of-instrs.result.now c.as_slice-2.result.now _
     (record {
@@ -60,4 +60,4 @@ returns c written v i =
     })
     (subst (λ n. EndsIn c.code_of-instrs.result.now (n + 1) c.site_at.result.ends) (sym c.site_at.ensures.place) c.site_at.ensures.ends)
     (λ M g code k. c.site_at.ensures.link M g code (subst (λ n. StandsAt c.code_of-instrs.result.now n (Call g)) c.site_at.ensures.place k)) written v (subst
-        (λ s. IsAt ps s written (Runs c.args.at) v) e i)
+    (λ s. IsAt ps s written (Runs c.args.at) v) e i)

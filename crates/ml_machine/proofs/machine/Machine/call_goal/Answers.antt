@@ -9,7 +9,7 @@ call_linked-requires c =
     let h = c.requires.stands in
     let b = c.in_ok-site.ensures h.0 h.1 h.2 in
     let call = is_call (program_of c.args.program.now) (procedures_of c.args.program.now) c.args.self.now c.args.at c.requires.goal c.build_goal.new.self
-        c.in_ok-site.site c.in_ok-next.next
+    c.in_ok-site.site c.in_ok-next.next
     (record { terms = refl; levels = refl; answers = refl; left = refl }) refl refl c.in_ok-next.ensures.frames (c.in_ok-next.ensures.goes_on _) b in
     (b.pred.name, b.pred.arity, b.link, (h.0, h.1, call))
 
@@ -20,6 +20,6 @@ returns c =
     (let b = c.in_ok-site.ensures written v i in
     called b.pred.name b.pred.arity b.link written v
     (is_call (program_of c.args.program.now) (procedures_of c.args.program.now) c.args.self.now c.args.at c.requires.goal c.build_goal.new.self
-        c.in_ok-site.site c.in_ok-next.next
+    c.in_ok-site.site c.in_ok-next.next
     (record { terms = refl; levels = refl; answers = refl; left = refl }) refl refl c.in_ok-next.ensures.frames (c.in_ok-next.ensures.goes_on _) b)))
     c.call_linked.ensures

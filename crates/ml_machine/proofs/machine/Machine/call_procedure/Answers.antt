@@ -36,7 +36,7 @@ returns-then-clause_count-eq1 c =
     IfOk-weaker c.enter_clause.result _ _
     (λ then entered f n is written v i. entered written v
     (only_clause p ps f n c.args.procedure c.args.next is _ c.len-height.result c.clause_count.result (omega
-        (arith, c.len-height.ensures)) c.clause_count.ensures c.if-clause_count-eq1.true
+    (arith, c.len-height.ensures)) c.clause_count.ensures c.if-clause_count-eq1.true
     (called_using p ps f n c.args.procedure c.args.next is c.is_loaded.ensures c.if-self-eq0.false written v
     (subst (λ (s : Machine). IsCall p ps s written f n c.args.next v) (sym c.self.view_is) i))))
     c.enter_clause.ensures
@@ -51,7 +51,7 @@ try_clause-requires c =
       i.1,
       first_clause p ps h.0 h.1 c.args.procedure c.args.next h.2 _ _ c.in_ok-saved.saved
           (record { terms = refl; levels = refl; answers = refl; left = refl }) refl refl _ c.as_slice.ensures.value c.in_ok-saved.ensures.saved refl
-              c.in_ok-saved.ensures.place
+          c.in_ok-saved.ensures.place
           (called_using p ps h.0 h.1 c.args.procedure c.args.next h.2 c.is_loaded.ensures c.if-self-eq0.false i.0 i.1 i.2),
     )
 
@@ -62,8 +62,8 @@ returns c =
     IfOk-weaker c.try_clause.result _ _
     (λ then tried f n is written v i. tried written v
     (first_clause p ps f n c.args.procedure c.args.next is _ _ c.in_ok-saved.saved
-        (record { terms = refl; levels = refl; answers = refl; left = refl }) refl refl _ c.as_slice.ensures.value c.in_ok-saved.ensures.saved refl
-            c.in_ok-saved.ensures.place
+    (record { terms = refl; levels = refl; answers = refl; left = refl }) refl refl _ c.as_slice.ensures.value c.in_ok-saved.ensures.saved refl
+    c.in_ok-saved.ensures.place
     (called_using p ps f n c.args.procedure c.args.next is c.is_loaded.ensures c.if-self-eq0.false written v
     (subst (λ (s : Machine). IsCall p ps s written f n c.args.next v) (sym c.self.view_is) i))))
     c.try_clause.ensures

@@ -8,7 +8,7 @@ returns c p ps =
     let height : c.len-height.result ≡ length c.args.self.now.stacks.choices.items = omega (arith, c.len-height.ensures, c.args.self.now.stacks.choices.ok.0) in
     after_choose_calls p ps c.args.self.now _ (record { terms = refl; levels = refl; answers = refl; left = refl }) c.args.at
     c.in_ok-otherwise.otherwise c.in_ok-outcome.outcome c.in_ok-condition.condition c.args.second c.args.third c.args.end c.args.ends _ _ _ _ _
-        c.in_ok-behind.behind
+    c.in_ok-behind.behind
     c.in_ok-link.link c.in_ok-taken.taken c.in_ok-decided.decided
     c.in_ok-behind.ensures.frames c.in_ok-otherwise.ensures c.in_ok-outcome.ensures c.in_ok-condition.ensures up
     c.in_ok-link.ensures.frames c.in_ok-link.ensures.link c.in_ok-taken.ensures.frames c.in_ok-taken.ensures.link c.in_ok-decided.ensures.frames

@@ -34,7 +34,7 @@ pub returns-in_ok-throw_at_catch-in-Some-Caught : goal.returns-in_ok-throw_at_ca
 returns-in_ok-throw_at_catch-in-Some-Caught c p ps written v i =
     let e : c.args.link ≡ suc (c.args.link - 1) = omega arith in
     c.in_ok-throw_at_catch-in-Some-Caught.ensures p ps (c.args.link - 1) (sym c.in-Some-Caught.ensures
-        ∙ ap Some c.in-Some-Caught.field-0-is) written v (at_name _ _ e i)
+    ∙ ap Some c.in-Some-Caught.field-0-is) written v (at_name _ _ e i)
 
 pub returns-then-link-eq0 : goal.returns-then-link-eq0
 returns-then-link-eq0 c p ps written v i = c.in_ok-throw_out.ensures p ps written v (at_name c.args.link 0 c.if-link-eq0.true i)

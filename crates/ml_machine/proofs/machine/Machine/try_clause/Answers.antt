@@ -21,7 +21,7 @@ returns-then-clause_count-clause-gt1 c =
     IfOk-weaker c.enter_clause.result _ _
     (λ then entered written v e. entered written v
     (entering_first (program_of c.args.program.now) (procedures_of c.args.program.now) c.args.self.now c.args.procedure c.args.clause c.args.saved c.args.next
-        c.len-height.result
+    c.len-height.result
     (omega (arith, c.len-height.ensures)) _ (record { terms = refl; levels = refl; answers = refl; left = refl }) refl refl _ refl
     (λ w x. c.in_ok-push_choice.ensures.pushed (procedures_of c.args.program.now) w x) c.in_ok-push_choice.ensures.one_more
     c.clause_count.result c.clause_count.ensures c.if-clause_count-clause-gt1.true e))
@@ -42,6 +42,6 @@ returns c =
     IfOk-weaker c.enter_clause-2.result _ _
     (λ then entered written v e. entered written v
     (entering_last (program_of c.args.program.now) (procedures_of c.args.program.now) c.args.self.now c.args.procedure c.args.clause c.args.saved c.args.next
-        c.len-height.result
+    c.len-height.result
     (omega (arith, c.len-height.ensures)) c.clause_count.result c.clause_count.ensures c.if-clause_count-clause-gt1.false e))
     c.enter_clause-2.ensures

@@ -25,7 +25,7 @@ returns-in-OfClause c =
     let codes = c.index.result.now.procedure.codes.items in
     let there : slice_get codes c.in-OfClause.clause ≡ Some c.index-in-OfClause.result.now =
     slice_get_read codes (length codes) c.in-OfClause.clause c.index-in-OfClause.result.now refl
-        (slice_get_within codes c.in-OfClause.clause c.requires.1 found.1)
+    (slice_get_within codes c.in-OfClause.clause c.requires.1 found.1)
     c.index-in-OfClause.ensures in
     λ M same.
     ap (code_of (procedures_of c.args.self.now) M) c.in-OfClause.is

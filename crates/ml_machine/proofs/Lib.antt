@@ -20,7 +20,14 @@ pub mod GoalsCalled
 pub mod CallsBuilt
 pub mod BodyVariables
 pub mod ClauseHeads
+pub mod BodiesCalled
+pub mod GoalsGiven
+pub mod GoalsCaught
+pub mod InferencesUsed
+pub mod ArgumentsGiven
 pub mod MomentsKept
 pub mod ClausesEntered
 pub mod ClausesLeft
 pub mod ProceduresCalled
+pub mod ErrorsRaised
+pub mod SearchesBegun

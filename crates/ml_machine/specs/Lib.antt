@@ -7,3 +7,4 @@ pub mod BallsCaught
 pub mod AnswersGathered
 pub mod Calls
 pub mod Clauses
+pub mod Controls

@@ -93,7 +93,7 @@ impl Machine {
     {
         match link {
             Link::Procedure(procedure) => self.call_procedure(program, procedure, next),
-            Link::Control(_) => Err(AllocError),
+            Link::Control(construct) => self.call_control(construct, next),
             Link::Plain => Err(AllocError),
             Link::Store(_) => Err(AllocError),
             Link::Declared(_, _) => Err(AllocError),

@@ -12,6 +12,7 @@ mod called;
 mod calls;
 mod clauses;
 mod control;
+mod controls;
 mod failing;
 mod findall;
 mod frames;
@@ -21,6 +22,7 @@ mod link;
 mod lists;
 mod machine;
 mod position;
+mod raising;
 mod running;
 mod step;
 #[cfg(test)]

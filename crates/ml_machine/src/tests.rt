@@ -2,6 +2,7 @@
 use crate::machine::Machine;
 use crate::position::{Position, Then};
 use ml_stack::{At, CodeName, Left, push_choice};
+use ml_term::Name;
 use std::alloc::AllocError;
 
 fn beginning() -> At {
@@ -46,5 +47,33 @@ fn a_condition_stands_above_its_alternative(rt: HostRuntime) -> Result<(), Alloc
     assert!(rt; at.height == 1);
     assert!(rt; machine.stacks.choices.len() == 1);
     assert!(rt; machine.memory.frames.len() == 4);
+    Ok(())
+}
+
+#[test]
+fn a_refuted_goal_stands_above_a_choice(rt: HostRuntime) -> Result<(), AllocError> {
+    let name = Name::new(rt.alloc(), b"p")?;
+    let mut machine = Machine::new(rt.alloc(), 100);
+    let goal = machine.memory.heap.new_atom(&name)?;
+    let then = machine.call_not_provable(goal, 0)?;
+    let Then::Goes(Position::Runs(at)) = then else {
+        return Err(AllocError);
+    };
+    assert!(rt; at.height == 1);
+    assert!(rt; machine.stacks.choices.len() == 1);
+    assert!(rt; machine.memory.frames.len() == 1);
+    Ok(())
+}
+
+#[test]
+fn a_goal_that_runs_once_has_its_code_and_a_cut(rt: HostRuntime) -> Result<(), AllocError> {
+    let name = Name::new(rt.alloc(), b"p")?;
+    let mut machine = Machine::new(rt.alloc(), 100);
+    let goal = machine.memory.heap.new_atom(&name)?;
+    let then = machine.call_once(goal, 0)?;
+    assert!(rt; matches!(then, Then::Goes(Position::Runs(_))));
+    assert!(rt; machine.memory.codes.len() == 1);
+    assert!(rt; machine.memory.frames.len() == 1);
+    assert!(rt; machine.stacks.choices.is_empty());
     Ok(())
 }

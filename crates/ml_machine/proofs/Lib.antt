@@ -31,3 +31,4 @@ pub mod ClausesLeft
 pub mod ProceduresCalled
 pub mod ErrorsRaised
 pub mod SearchesBegun
+pub mod UnknownCalled

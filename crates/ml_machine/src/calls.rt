@@ -1,15 +1,19 @@
 //! Goals: their arguments are built, and their predicates are called.
-ghost use Rattle.std.specs.Prelude.{◌≡◌, ◌+◌, ℕ, IfOk, List, Some};
+ghost use Rattle.std.specs.Prelude.{◌≡◌, ◌+◌, ℕ, IfOk, IsTrue, List, Some};
 ghost use Rattle.ml_asking.specs.Asking.{Move};
 ghost use Rattle.ml_compile.specs.Spells.{StandsAt};
 ghost use Rattle.ml_compile.specs.declared.instr.Instr.{Instr};
 ghost use Rattle.ml_compile.specs.declared.instr.Instr.TheVariants as instr;
 ghost use Rattle.ml_machine.specs.Calls.{CallsTo, HasBuiltCall, IsSomeCall};
-ghost use Rattle.ml_machine.specs.Instructions.{EndsIn, IsReadAt};
+ghost use Rattle.ml_machine.specs.Instructions.{EndsIn, HasInstruction, IsReadAt};
 ghost use Rattle.ml_machine.specs.Positions.{IsAt, StandsForSome};
 ghost use Rattle.ml_machine.specs.Steps.{StepsTo};
 ghost use Rattle.ml_machine.specs.declared.instruction.Instruction.TheVariants as instruction;
 ghost use Rattle.ml_program.specs.Links.{link_of};
+ghost use Rattle.ml_program.specs.declared.link.Link.TheVariants as link;
+ghost use Rattle.ml_search.specs.Errors.{existence_error};
+ghost use Rattle.ml_term.specs.Seen.{seen};
+ghost use Rattle.ml_term.specs.Valid.{is_valid};
 ghost use Rattle.ml_program.specs.LoadedProgram.{procedures_of, program_of};
 ghost use Rattle.ml_stack.specs.Memories.{Contents, code_of};
 ghost use Rattle.ml_term.specs.Tree.{Tree};
@@ -22,8 +26,10 @@ use crate::position::{Position, Then};
 use ml_compile::Instr;
 use ml_match::build;
 use ml_program::{Link, Loaded};
+use ml_raise::existence_error;
 use ml_stack::{At, CodeName, FrameLink};
-use std::alloc::AllocError;
+use ml_term::Term;
+use std::alloc::{AllocError, Global};
 
 /// A call whose arguments were built: its place, where it leads, and whether its block ends behind
 /// it.
@@ -51,7 +57,31 @@ impl Machine {
             next: at.next,
         };
         let next = link_behind(&mut self.memory, call, 1, site.ends)?;
+        if let Link::Unknown = site.link {
+            return self.call_unknown(program, call, next);
+        }
         self.call_linked(program, site.link, next)
+    }
+
+    // Calls a predicate that there isn't, by the instruction of its call: it uses no inference.
+    fn call_unknown(
+        &mut self,
+        program: &Loaded,
+        call: At,
+        next: FrameLink,
+    ) -> Result<Then, AllocError>
+        requires { (g : Pred) × HasInstruction (procedures_of program.now) self.old.memory call
+            (instr.Call g) }
+        ensures { IfOk result (λ then. (g : Pred) → HasInstruction (procedures_of program.now)
+            self.old.memory call (instr.Call g) →
+            link_of (program_of program.now) (procedures_of program.now) g.name g.arity
+            ≡ link.Unknown →
+            CallsTo (program_of program.now) (procedures_of program.now) self.old g.name g.arity
+            next self.new then) }
+    {
+        let instrs = program.code_of(self.memory.codes.as_slice(), call.code);
+        let error = unknown_error(self.alloc, instrs, call.place)?;
+        self.raise(error, next)
     }
 
     // Builds the arguments of the goal whose instructions begin at a place: they are in the cells.
@@ -76,7 +106,8 @@ impl Machine {
         Ok(site_at(program, instrs, at.code, place))
     }
 
-    // Calls the predicate of a link with the terms of the cells.
+    // Calls the predicate of a link with the terms of the cells. Calls of built-ins and of declared
+    // predicates aren't built, and answer want of memory; an unknown one is called by itself.
     fn call_linked(
         &mut self,
         program: &Loaded,
@@ -99,6 +130,19 @@ impl Machine {
             Link::Declared(_, _) => Err(AllocError),
             Link::Unknown => Err(AllocError),
         }
+    }
+}
+
+// The error that there is no such predicate as the one of the call at a place of some code.
+fn unknown_error(alloc: Global, instrs: &[Instr], place: usize) -> Result<Term, AllocError>
+    requires { (g : Pred) × StandsAt instrs.now place (instr.Call g) }
+    ensures same { IfOk result (λ term. (g : Pred) → StandsAt instrs.now place (instr.Call g) →
+        seen term ≡ existence_error g.name g.arity) }
+    ensures valid { IfOk result (λ term. IsTrue (is_valid (seen term))) }
+{
+    match &instrs[place] {
+        Instr::Call(pred) => Ok(existence_error(alloc, &pred.name, pred.arity)?),
+        _ => unreachable!(),
     }
 }
 

@@ -1,7 +1,7 @@
-use Rattle.std.proofs.Common.{refl}
+use Rattle.std.proofs.Common.{refl, sym, ◌∙◌}
 use Rattle.std.proofs.lemmas.Result.{IfOk-weaker}
 use Rattle.ml_program.specs.LoadedProgram.{program_of, procedures_of}
-use Rattle.ml_machine.proofs.CallsBuilt.{is_call}
+use Rattle.ml_machine.proofs.CallsBuilt.{is_call, call_stands}
 use Rattle.ml_machine.proofs.machine.Machine.call_goal.Goals as goal
 
 pub call_linked-requires : goal.call_linked-requires
@@ -23,3 +23,28 @@ returns c =
     c.in_ok-site.site c.in_ok-next.next
     (record { terms = refl; levels = refl; answers = refl; left = refl }) refl refl c.in_ok-next.ensures.frames (c.in_ok-next.ensures.goes_on _) b)))
     c.call_linked.ensures
+
+pub call_unknown-requires : goal.call_unknown-requires
+call_unknown-requires c =
+    let h = c.requires.stands in
+    let b = c.in_ok-site.ensures h.0 h.1 h.2 in (
+      b.pred,
+      call_stands (program_of c.args.program.now) (procedures_of c.args.program.now) c.args.self.now c.args.at c.requires.goal c.build_goal.new.self _
+          c.in_ok-site.site
+          c.in_ok-next.ensures.frames b,
+    )
+
+pub returns-in-Unknown : goal.returns-in-Unknown
+returns-in-Unknown c =
+    IfOk-weaker c.call_unknown.result _ _
+    (λ then called written v i.
+    (let b = c.in_ok-site.ensures written v i in
+    called b.pred
+    (call_stands (program_of c.args.program.now) (procedures_of c.args.program.now) c.args.self.now c.args.at c.requires.goal c.build_goal.new.self _
+    c.in_ok-site.site
+    c.in_ok-next.ensures.frames b)
+    (sym b.link ∙ c.in-Unknown.is) written v
+    (is_call (program_of c.args.program.now) (procedures_of c.args.program.now) c.args.self.now c.args.at c.requires.goal c.build_goal.new.self
+    c.in_ok-site.site c.in_ok-next.next
+    (record { terms = refl; levels = refl; answers = refl; left = refl }) refl refl c.in_ok-next.ensures.frames (c.in_ok-next.ensures.goes_on _) b)))
+    c.call_unknown.ensures

@@ -21,7 +21,7 @@ ROWS = re.compile(r'(^|/)(\w*Rows\w*|RowWords)$')
 TABLE = '| Definition | What it says |'
 PARTS = (
     ('What the headline says', 'What must be read to know what `serial` promises: its contract, and all definitions that it rests on.'),
-    ('What other public calls and laws say', 'The parts that the program doesn\'t use yet, and laws of the definitions above.'),
+    ('What other public calls and laws say', 'The layers below `serial`, parts that the program doesn\'t use yet, and laws of the definitions above.'),
     ('Inside the crates', 'How the code keeps what the definitions above say. What `serial` promises rests on none of these.'),
 )
 

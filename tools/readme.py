@@ -31,8 +31,6 @@ FILES = {
     'long': b'%' * 1048577,
     'clash': b'a = b = c.',
     'item': b'p(1).',
-    'clause': b'a :- b.',
-    'aborts': b'?- p(X). :- abort.',
 }
 # status, line, and words; `folder` is a folder, and output goes to a full device where the status is 9
 REFUSED = (
@@ -49,8 +47,6 @@ REFUSED = (
     (6, 'megalog: rules PriorityClash at 6', ['serial', 'clash', 'gone']),
     (7, 'megalog: script 2 BadScriptItem at 0', ['serial', 'rules', 's1', 'item']),
     (9, 'megalog: cannot write', ['serial', 'rules', 's1']),
-    (13, 'megalog: not built clause', ['serial', 'clause', 's1']),
-    (13, 'megalog: not built aborts', ['serial', 'rules', 's1', 'aborts']),
 )
 MARKS = {'NAME': r'\S+', 'KIND': r'[A-Z]\w+', 'PLACE': r'\d+', 'K': r'\d+'}
 

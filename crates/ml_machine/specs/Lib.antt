@@ -1,6 +1,8 @@
 pub mod MoreFrames
 pub mod Instructions
 pub mod Positions
+pub mod Awaited
+pub mod Begun
 pub mod Steps
 pub mod Taken
 pub mod BallsCaught
@@ -8,3 +10,6 @@ pub mod AnswersGathered
 pub mod Calls
 pub mod Clauses
 pub mod Controls
+pub mod Openings
+pub mod Items
+pub mod StoreCalls

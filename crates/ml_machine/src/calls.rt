@@ -57,10 +57,7 @@ impl Machine {
             next: at.next,
         };
         let next = link_behind(&mut self.memory, call, 1, site.ends)?;
-        if let Link::Unknown = site.link {
-            return self.call_unknown(program, call, next);
-        }
-        self.call_linked(program, site.link, next)
+        self.call_linked(program, call, site.link, next)
     }
 
     // Calls a predicate that there isn't, by the instruction of its call: it uses no inference.
@@ -106,29 +103,31 @@ impl Machine {
         Ok(site_at(program, instrs, at.code, place))
     }
 
-    // Calls the predicate of a link with the terms of the cells. Calls of built-ins and of declared
-    // predicates aren't built, and answer want of memory; an unknown one is called by itself.
+    // Calls the predicate of a link with the terms of the cells, by the instruction of its call.
     fn call_linked(
         &mut self,
         program: &Loaded,
+        call: At,
         link: Link,
         next: FrameLink,
     ) -> Result<Then, AllocError>
-        requires { (f : List ℕ) × (n : ℕ)
-            × (link ≡ link_of (program_of program.now) (procedures_of program.now) f n)
-            × IsSomeCall (program_of program.now) (procedures_of program.now) self.old f n next }
-        ensures { IfOk result (λ then. (f : List ℕ) (n : ℕ) →
-            link ≡ link_of (program_of program.now) (procedures_of program.now) f n →
-            CallsTo (program_of program.now) (procedures_of program.now) self.old f n next self.new
-            then) }
+        requires { (g : Pred) × HasInstruction (procedures_of program.now) self.old.memory call
+            (instr.Call g) × (link ≡ link_of (program_of program.now) (procedures_of program.now)
+            g.name g.arity) × IsSomeCall (program_of program.now) (procedures_of program.now)
+            self.old g.name g.arity next }
+        ensures { IfOk result (λ then. (g : Pred) → HasInstruction (procedures_of program.now)
+            self.old.memory call (instr.Call g) →
+            link ≡ link_of (program_of program.now) (procedures_of program.now) g.name g.arity →
+            CallsTo (program_of program.now) (procedures_of program.now) self.old g.name g.arity
+            next self.new then) }
     {
         match link {
             Link::Procedure(procedure) => self.call_procedure(program, procedure, next),
             Link::Control(construct) => self.call_control(construct, next),
-            Link::Plain => Err(AllocError),
-            Link::Store(_) => Err(AllocError),
-            Link::Declared(_, _) => Err(AllocError),
-            Link::Unknown => Err(AllocError),
+            Link::Plain(plain) => self.call_plain(plain, next),
+            Link::Store(built_in) => self.call_store(program, built_in, next),
+            Link::Declared(kind, list) => self.call_declared(program, call, kind, list, next),
+            Link::Unknown => self.call_unknown(program, call, next),
         }
     }
 }

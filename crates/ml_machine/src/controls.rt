@@ -67,8 +67,8 @@ impl Machine {
         }
     }
 
-    // The cell of a call's argument, from 0.
-    fn argument(&self, place: usize) -> Ref
+    /// The cell of a call's argument, from 0.
+    pub(crate) fn argument(&self, place: usize) -> Ref
         requires { place < vec_len self.now.cells }
         ensures { result ≡ slice_index_or self.now.cells.items place 0 }
     {

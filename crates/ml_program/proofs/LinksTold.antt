@@ -8,6 +8,7 @@ use Rattle.ml_term.specs.Tree.{Tree}
 use Rattle.ml_term.specs.declared.declaration.Decl.{Decl}
 use Rattle.ml_term.specs.declared.declaration.Kind.{Kind}
 use Rattle.ml_search.specs.Actions.{program_predicate, declared_predicate, unknown_procedure}
+use Rattle.ml_search.specs.Builtins.{is_plain}
 use Rattle.ml_search.specs.Bodies.{predication, body_from_1, body_from_3}
 use Rattle.ml_search.specs.Names.{look_up}
 use Rattle.ml_search.specs.Procedures.{procedure_of, usage_of, is_defined, has_name, store_names}
@@ -15,6 +16,9 @@ use Rattle.ml_search.specs.Program.{Clause, Program, clauses_of}
 use Rattle.ml_search.specs.Standing.{Standing, of_plain, of_store, of_declared, of_program, of_nothing, standing, standing_by, IsPlainGoal, IsStoreGoal}
 use Rattle.ml_search.proofs.DeclarationsFound.{names_swapped}
 use Rattle.ml_search.proofs.Standings.{standing_is, plain_goal, store_goal, declared_goal, program_goal, nothing_goal}
+use Rattle.ml_builtin.specs.Tables.{plain_name, plain_arity, plain_of}
+use Rattle.ml_builtin.specs.declared.plain.Plain as B
+use Rattle.ml_builtin.proofs.PlainsFound.{has_plain, plain_named}
 use Rattle.ml_compile.specs.Spells.{called_body, SpellsClause}
 use Rattle.ml_compile.specs.declared.instr.Instr.{Instr}
 use Rattle.ml_stack.specs.Memories.{CompiledProcedure}
@@ -30,73 +34,80 @@ use Rattle.ml_program.proofs.LinksMade.{link_is}
 use Rattle.ml_program.proofs.NamesFound.{has_store}
 
 -- what stands behind a link
-by_control : (o : Option ControlCall) (s : Standing) (k : Option StoreCall) (p : ℕ) (c : ControlCall) → link_by o s k p ≡ Control c →
+by_control : (o : Option ControlCall) (s : Standing) (b : Option B.Plain) (k : Option StoreCall) (p : ℕ) (c : ControlCall) → link_by o s b k p ≡ Control c →
     o ≡ Some c
-by_control (Some d) s k p c e = let same : d ≡ c = cc e in ap Some same
-by_control None of_plain k p c e = absurd (cc e)
-by_control None of_store (Some x) p c e = absurd (cc e)
-by_control None of_store None p c e = absurd (cc e)
-by_control None (of_declared kind d) k p c e = absurd (cc e)
-by_control None of_program k p c e = absurd (cc e)
-by_control None of_nothing k p c e = absurd (cc e)
+by_control (Some d) s b k p c e = let same : d ≡ c = cc e in ap Some same
+by_control None of_plain (Some x) k p c e = absurd (cc e)
+by_control None of_plain None k p c e = absurd (cc e)
+by_control None of_store b (Some x) p c e = absurd (cc e)
+by_control None of_store b None p c e = absurd (cc e)
+by_control None (of_declared kind d) b k p c e = absurd (cc e)
+by_control None of_program b k p c e = absurd (cc e)
+by_control None of_nothing b k p c e = absurd (cc e)
 
-by_plain : (o : Option ControlCall) (s : Standing) (k : Option StoreCall) (p : ℕ) → link_by o s k p ≡ Plain →
-    (o ≡ None) × (s ≡ of_plain)
-by_plain (Some d) s k p e = absurd (cc e)
-by_plain None of_plain k p e = (refl, refl)
-by_plain None of_store (Some x) p e = absurd (cc e)
-by_plain None of_store None p e = absurd (cc e)
-by_plain None (of_declared kind d) k p e = absurd (cc e)
-by_plain None of_program k p e = absurd (cc e)
-by_plain None of_nothing k p e = absurd (cc e)
+by_plain : (o : Option ControlCall) (s : Standing) (b : Option B.Plain) (k : Option StoreCall) (p : ℕ) (c : B.Plain) → link_by o s b k p ≡ Plain c →
+    (o ≡ None) × (s ≡ of_plain) × (b ≡ Some c)
+by_plain (Some d) s b k p c e = absurd (cc e)
+by_plain None of_plain (Some x) k p d e = let same : x ≡ d = cc e in (refl, refl, ap Some same)
+by_plain None of_plain None k p d e = absurd (cc e)
+by_plain None of_store b (Some x) p c e = absurd (cc e)
+by_plain None of_store b None p c e = absurd (cc e)
+by_plain None (of_declared kind d) b k p c e = absurd (cc e)
+by_plain None of_program b k p c e = absurd (cc e)
+by_plain None of_nothing b k p c e = absurd (cc e)
 
-by_store : (o : Option ControlCall) (s : Standing) (k : Option StoreCall) (p : ℕ) (j : StoreCall) → link_by o s k p ≡ Store j →
+by_store : (o : Option ControlCall) (s : Standing) (b : Option B.Plain) (k : Option StoreCall) (p : ℕ) (j : StoreCall) → link_by o s b k p ≡ Store j →
     (o ≡ None) × (s ≡ of_store) × (k ≡ Some j)
-by_store (Some d) s k p j e = absurd (cc e)
-by_store None of_plain k p j e = absurd (cc e)
-by_store None of_store (Some x) p j e = let same : x ≡ j = cc e in (refl, refl, ap Some same)
-by_store None of_store None p j e = absurd (cc e)
-by_store None (of_declared kind d) k p j e = absurd (cc e)
-by_store None of_program k p j e = absurd (cc e)
-by_store None of_nothing k p j e = absurd (cc e)
+by_store (Some d) s b k p j e = absurd (cc e)
+by_store None of_plain (Some x) k p j e = absurd (cc e)
+by_store None of_plain None k p j e = absurd (cc e)
+by_store None of_store b (Some x) p j e = let same : x ≡ j = cc e in (refl, refl, ap Some same)
+by_store None of_store b None p j e = absurd (cc e)
+by_store None (of_declared kind d) b k p j e = absurd (cc e)
+by_store None of_program b k p j e = absurd (cc e)
+by_store None of_nothing b k p j e = absurd (cc e)
 
-by_declared : (o : Option ControlCall) (s : Standing) (k : Option StoreCall) (p : ℕ) (kind' : Kind) (j : ℕ) → link_by o s k p ≡ Declared kind' j →
+by_declared : (o : Option ControlCall) (s : Standing) (b : Option B.Plain) (k : Option StoreCall) (p : ℕ) (kind' : Kind) (j : ℕ)
+    → link_by o s b k p ≡ Declared kind' j →
     (o ≡ None) × (s ≡ of_declared kind' j)
-by_declared (Some d) s k p kind' j e = absurd (cc e)
-by_declared None of_plain k p kind' j e = absurd (cc e)
-by_declared None of_store (Some x) p kind' j e = absurd (cc e)
-by_declared None of_store None p kind' j e = absurd (cc e)
-by_declared None (of_declared kind d) k p kind' j e = let same : kind ≡ kind' = cc e in let place : d ≡ j = cc e in (
+by_declared (Some d) s b k p kind' j e = absurd (cc e)
+by_declared None of_plain (Some x) k p kind' j e = absurd (cc e)
+by_declared None of_plain None k p kind' j e = absurd (cc e)
+by_declared None of_store b (Some x) p kind' j e = absurd (cc e)
+by_declared None of_store b None p kind' j e = absurd (cc e)
+by_declared None (of_declared kind d) b k p kind' j e = let same : kind ≡ kind' = cc e in let place : d ≡ j = cc e in (
   refl,
   ap (λ q. of_declared q d) same
       ∙ ap (of_declared kind') place,
 )
-by_declared None of_program k p kind' j e = absurd (cc e)
-by_declared None of_nothing k p kind' j e = absurd (cc e)
+by_declared None of_program b k p kind' j e = absurd (cc e)
+by_declared None of_nothing b k p kind' j e = absurd (cc e)
 
-by_program : (o : Option ControlCall) (s : Standing) (k : Option StoreCall) (p : ℕ) (j : ℕ) → link_by o s k p ≡ Procedure j →
+by_program : (o : Option ControlCall) (s : Standing) (b : Option B.Plain) (k : Option StoreCall) (p : ℕ) (j : ℕ) → link_by o s b k p ≡ Procedure j →
     (o ≡ None) × (s ≡ of_program) × (p ≡ j)
-by_program (Some d) s k p j e = absurd (cc e)
-by_program None of_plain k p j e = absurd (cc e)
-by_program None of_store (Some x) p j e = absurd (cc e)
-by_program None of_store None p j e = absurd (cc e)
-by_program None (of_declared kind d) k p j e = absurd (cc e)
-by_program None of_program k p j e = (refl, refl, cc e)
-by_program None of_nothing k p j e = absurd (cc e)
+by_program (Some d) s b k p j e = absurd (cc e)
+by_program None of_plain (Some x) k p j e = absurd (cc e)
+by_program None of_plain None k p j e = absurd (cc e)
+by_program None of_store b (Some x) p j e = absurd (cc e)
+by_program None of_store b None p j e = absurd (cc e)
+by_program None (of_declared kind d) b k p j e = absurd (cc e)
+by_program None of_program b k p j e = (refl, refl, cc e)
+by_program None of_nothing b k p j e = absurd (cc e)
 
-by_nothing : (o : Option ControlCall) (s : Standing) (k : Option StoreCall) (p : ℕ) → link_by o s k p ≡ Unknown →
-    (s ≡ of_nothing) ⊎ ((s ≡ of_store) × (k ≡ None))
-by_nothing (Some d) s k p e = absurd (cc e)
-by_nothing None of_plain k p e = absurd (cc e)
-by_nothing None of_store (Some x) p e = absurd (cc e)
-by_nothing None of_store None p e = inr (refl, refl)
-by_nothing None (of_declared kind d) k p e = absurd (cc e)
-by_nothing None of_program k p e = absurd (cc e)
-by_nothing None of_nothing k p e = inl refl
+by_nothing : (o : Option ControlCall) (s : Standing) (b : Option B.Plain) (k : Option StoreCall) (p : ℕ) → link_by o s b k p ≡ Unknown →
+    (s ≡ of_nothing) ⊎ (((s ≡ of_store) × (k ≡ None)) ⊎ ((s ≡ of_plain) × (b ≡ None)))
+by_nothing (Some d) s b k p e = absurd (cc e)
+by_nothing None of_plain (Some x) k p e = absurd (cc e)
+by_nothing None of_plain None k p e = inr (inr (refl, refl))
+by_nothing None of_store b (Some x) p e = absurd (cc e)
+by_nothing None of_store b None p e = inr (inl (refl, refl))
+by_nothing None (of_declared kind d) b k p e = absurd (cc e)
+by_nothing None of_program b k p e = absurd (cc e)
+by_nothing None of_nothing b k p e = inl refl
 
-by_other : (o : Option ControlCall) (s : Standing) (k : Option StoreCall) (p : ℕ) → control_of (link_by o s k p) ≡ None → o ≡ None
-by_other (Some d) s k p e = absurd (cc e)
-by_other None s k p e = refl
+by_other : (o : Option ControlCall) (s : Standing) (b : Option B.Plain) (k : Option StoreCall) (p : ℕ) → control_of (link_by o s b k p) ≡ None → o ≡ None
+by_other (Some d) s b k p e = absurd (cc e)
+by_other None s b k p e = refl
 
 -- what holds of each entry of a table
 abbrev pub EachEntry : {A : Type 0} → (List ℕ → A → Type 0) → List (List ℕ × A) → Type 0
@@ -178,6 +189,13 @@ store_named f n k e = by (n == 1) e
     by true h = looked_up (λ g j. g ≡ store_name j) store_calls f k (refl, (refl, (refl, (refl, (refl, tt))))) h
     by false h = absurd (cc h)
 
+stands_plain : (a s : Bool) (o : Option Decl) (k : ℕ) (c : Bool) → standing_by a s o k c ≡ of_plain → a ≡ true
+stands_plain true s o k c e = refl
+stands_plain false true o k c e = absurd (cc e)
+stands_plain false false (Some d) k c e = absurd (cc e)
+stands_plain false false None k true e = absurd (cc e)
+stands_plain false false None k false e = absurd (cc e)
+
 stands_store : (a s : Bool) (o : Option Decl) (k : ℕ) (c : Bool) → standing_by a s o k c ≡ of_store → s ≡ true
 stands_store true s o k c e = absurd (cc e)
 stands_store false true o k c e = refl
@@ -218,34 +236,40 @@ module _ (program : Program) (ps : List CompiledProcedure) (f : List ℕ) (ts : 
   abbrev place : ℕ
   place = unwrap_or (procedure_place ps f n) 0
 
-  made : (l : Link) → link_of program ps f n ≡ l → link_by (control_call f n) (standing program f n) (store_call f n) place ≡ l
+  made : (l : Link) → link_of program ps f n ≡ l → link_by (control_call f n) (standing program f n) (plain_of f n) (store_call f n) place ≡ l
   made l e = sym (link_is program ps f n) ∙ e
 
   pub tells_control : (c : ControlCall) → link_of program ps f n ≡ Control c → IsControlBody c ts (called_body f ts)
-  tells_control c e = told_control f ts c (by_control (control_call f n) (standing program f n) (store_call f n) place c (made (Control c) e))
+  tells_control c e = told_control f ts c (by_control (control_call f n) (standing program f n) (plain_of f n) (store_call f n) place c (made (Control c) e))
 
   pub tells_other : control_of (link_of program ps f n) ≡ None → called_body f ts ≡ predication f ts
   tells_other e =
       told_other f ts
-      (by_other (control_call f n) (standing program f n) (store_call f n) place (ap control_of (sym (link_is program ps f n)) ∙ e))
+      (by_other (control_call f n) (standing program f n) (plain_of f n) (store_call f n) place (ap control_of (sym (link_is program ps f n)) ∙ e))
 
-  pub tells_plain : link_of program ps f n ≡ Plain → IsPlainGoal program f ts
-  tells_plain e = plain_goal program f ts (by_plain (control_call f n) (standing program f n) (store_call f n) place (made Plain e)).1
+  pub tells_plain : (b : B.Plain) → link_of program ps f n ≡ Plain b → IsPlainGoal program f ts
+  tells_plain b e =
+      plain_goal program f ts (by_plain (control_call f n) (standing program f n) (plain_of f n) (store_call f n) place b (made (Plain b) e)).1
+
+  pub tells_built_in : (b : B.Plain) → link_of program ps f n ≡ Plain b → (plain_name b ≡ f) × (plain_arity b ≡ n)
+  tells_built_in b e =
+      plain_named f n b (by_plain (control_call f n) (standing program f n) (plain_of f n) (store_call f n) place b (made (Plain b) e)).2
 
   pub tells_store : (k : StoreCall) → link_of program ps f n ≡ Store k → IsStoreGoal program f ts
-  tells_store k e = store_goal program f ts (by_store (control_call f n) (standing program f n) (store_call f n) place k (made (Store k) e)).1
+  tells_store k e = store_goal program f ts (by_store (control_call f n) (standing program f n) (plain_of f n) (store_call f n) place k (made (Store k) e)).1
 
   pub tells_name : (k : StoreCall) → link_of program ps f n ≡ Store k → f ≡ store_name k
-  tells_name k e = store_named f n k (by_store (control_call f n) (standing program f n) (store_call f n) place k (made (Store k) e)).2
+  tells_name k e = store_named f n k (by_store (control_call f n) (standing program f n) (plain_of f n) (store_call f n) place k (made (Store k) e)).2
 
   pub tells_declared : (kind : Kind) (d : ℕ) → link_of program ps f n ≡ Declared kind d →
       procedure_of program f ts ≡ declared_predicate (usage_of program kind) d
   tells_declared kind d e =
-      declared_goal program f ts kind d (by_declared (control_call f n) (standing program f n) (store_call f n) place kind d (made (Declared kind d) e)).1
+      declared_goal program f ts kind d
+      (by_declared (control_call f n) (standing program f n) (plain_of f n) (store_call f n) place kind d (made (Declared kind d) e)).1
 
   pub tells_procedure : (p : ℕ) → IsLoaded program ps → link_of program ps f n ≡ Procedure p → IsProgramGoal program ps f ts p
   tells_procedure p loaded e =
-      let h = by_program (control_call f n) (standing program f n) (store_call f n) place p (made (Procedure p) e) in
+      let h = by_program (control_call f n) (standing program f n) (plain_of f n) (store_call f n) place p (made (Procedure p) e) in
       let defined : is_defined program f n ≡ true = stands_program _ _ _ _ _ (sym (standing_is program f n) ∙ h.1) in
       let there = there_is (procedure_place ps f n) (loaded.defined f n ∙ defined) in
       let same : there.0 ≡ p = sym (ap (λ o. unwrap_or o 0) there.1) ∙ h.2 in
@@ -266,13 +290,18 @@ module _ (program : Program) (ps : List CompiledProcedure) (f : List ℕ) (ts : 
       }
 
   pub tells_unknown : link_of program ps f n ≡ Unknown → procedure_of program f ts ≡ unknown_procedure
-  tells_unknown e = by (by_nothing (control_call f n) (standing program f n) (store_call f n) place (made Unknown e))
+  tells_unknown e = by (by_nothing (control_call f n) (standing program f n) (plain_of f n) (store_call f n) place (made Unknown e))
     where
-      by : (standing program f n ≡ of_nothing) ⊎ ((standing program f n ≡ of_store) × (store_call f n ≡ None)) → procedure_of program f ts ≡ unknown_procedure
+      by : (standing program f n ≡ of_nothing) ⊎
+          (((standing program f n ≡ of_store) × (store_call f n ≡ None)) ⊎ ((standing program f n ≡ of_plain) × (plain_of f n ≡ None)))
+          → procedure_of program f ts ≡ unknown_procedure
       by (inl h) = nothing_goal program f ts h
-      by (inr h) =
+      by (inr (inl h)) =
           let has : has_name store_names f n ≡ true = stands_store _ _ _ _ _ (sym (standing_is program f n) ∙ h.0) in
           absurd (true≢false (sym has ∙ has_store f n ∙ ap is_some h.1))
+      by (inr (inr h)) =
+          let has : is_plain f n ≡ true = stands_plain _ _ _ _ _ (sym (standing_is program f n) ∙ h.0) in
+          absurd (true≢false (sym has ∙ has_plain f n ∙ ap is_some h.1))
 
 pub clause_of_code : {codes : List (List Instr)} {cs : List Clause} → SpellEach codes cs → (i : ℕ) (code : List Instr) → slice_get codes i ≡ Some code →
     (c : Clause) × (slice_get cs i ≡ Some c) × SpellsClause code c

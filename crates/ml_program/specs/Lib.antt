@@ -1,3 +1,4 @@
+pub mod DeclaredLists
 pub mod Links
 pub mod LoadedProgram
 pub mod LinkedGoals

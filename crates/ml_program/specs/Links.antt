@@ -7,6 +7,8 @@ use Rattle.ml_search.specs.Names.{look_up}
 use Rattle.ml_search.specs.Program.{Program}
 use Rattle.ml_search.specs.Standing.{Standing, of_plain, of_store, of_declared, of_program}
 use Rattle.ml_search.specs.Standing.{of_nothing, standing}
+use Rattle.ml_builtin.specs.Tables.{plain_of}
+use Rattle.ml_builtin.specs.declared.plain.Plain as B
 use Rattle.ml_compile.specs.declared.instr.Instr.{Instr}
 use Rattle.ml_compile.specs.declared.instr.Instr.TheVariants.{Call as CallOf}
 use Rattle.ml_stack.specs.Memories.{CompiledProcedure}
@@ -58,22 +60,23 @@ procedure_place (d ∷ ds) f n =
     if is_procedure_of f n d then Some 0
     else option_map suc (procedure_place ds f n)
 
--- The link of a predicate: by the control construct that it is, its standing, the store built-in
--- that it is, and the number of its procedure. A control construct is one whatever else stands
--- under its name, since a body is taken in before any name is looked up.
-abbrev pub link_by : Option ControlCall → Standing → Option StoreCall → ℕ → Link
-link_by (Some c) s k p = Control c
-link_by None of_plain k p = Plain
-link_by None of_store (Some k) p = Store k
-link_by None of_store None p = Unknown
-link_by None (of_declared kind d) k p = Declared kind d
-link_by None of_program k p = Procedure p
-link_by None of_nothing k p = Unknown
+-- The link of a predicate: by the control construct that it is, its standing, the plain built-in
+-- and the store built-in that it is, and the number of its procedure. A control construct is one
+-- whatever else stands under its name, since a body is taken in before any name is looked up.
+abbrev pub link_by : Option ControlCall → Standing → Option B.Plain → Option StoreCall → ℕ → Link
+link_by (Some c) s b k p = Control c
+link_by None of_plain (Some b) k p = Plain b
+link_by None of_plain None k p = Unknown
+link_by None of_store b (Some k) p = Store k
+link_by None of_store b None p = Unknown
+link_by None (of_declared kind d) b k p = Declared kind d
+link_by None of_program b k p = Procedure p
+link_by None of_nothing b k p = Unknown
 
 -- the link of a predicate in a program with these procedures
 unfoldable pub link_of : Program → List CompiledProcedure → List ℕ → ℕ → Link
 link_of program ps f n =
-    link_by (control_call f n) (standing program f n) (store_call f n)
+    link_by (control_call f n) (standing program f n) (plain_of f n) (store_call f n)
     (unwrap_or (procedure_place ps f n) 0)
 
 -- what stands beside an instruction: the link of a call; beside any other the link that leads

@@ -1,5 +1,6 @@
 //! Links.
 
+use ml_builtin::Plain;
 use ml_term::Kind;
 
 /// The control constructs that are called with arguments.
@@ -40,7 +41,7 @@ pub enum Link {
     /// To a control construct.
     Control(ControlCall),
     /// To a plain built-in.
-    Plain,
+    Plain(Plain),
     /// To a built-in that changes lists.
     Store(StoreCall),
     /// To a declared predicate: its kind, and the number of its list.

@@ -1,6 +1,8 @@
 //! What links and loaded procedures tell: laws that tie them to the search. The functions do
 //! nothing: their contracts are the laws, for the layers above and for the reader.
 ghost use Rattle.std.specs.Prelude.{◌≡◌, ℕ, List, length, None, slice_get, Some};
+ghost use Rattle.ml_builtin.specs.Tables.{plain_arity, plain_name};
+ghost use Rattle.ml_builtin.specs.declared.plain.Plain as B;
 ghost use Rattle.ml_compile.specs.Spells.{called_body, SpellsClause};
 ghost use Rattle.ml_compile.specs.declared.instr.Instr.{Instr};
 ghost use Rattle.ml_program.specs.LinkedGoals.{control_of, IsControlBody, IsProgramGoal, store_name};
@@ -21,8 +23,8 @@ ghost use Rattle.ml_term.specs.declared.declaration.Kind.{Kind};
 /// A call's link tells what the body of the call is, and, where that is no control construct, what
 /// the search makes of the goal.
 /// `control`: the control construct with these arguments. `other`: every other call is of a goal by
-/// its name. `plain`, `store`, `declared`, `procedure`, `unknown`: what that goal is. `name`: which
-/// of the built-ins that change lists it is.
+/// its name. `plain`, `store`, `declared`, `procedure`, `unknown`: what that goal is. `built_in`:
+/// which of the plain built-ins it is. `name`: which of those that change lists.
 pub fn a_link_tells_what_a_goal_is()
     ensures control { (program : Program) (ps : List CompiledProcedure) (f : List ℕ)
         (ts : List Tree) (c : ControlCall) → link_of program ps f (length ts) ≡ Control c →
@@ -31,7 +33,11 @@ pub fn a_link_tells_what_a_goal_is()
         (ts : List Tree) → control_of (link_of program ps f (length ts)) ≡ None →
         called_body f ts ≡ predication f ts }
     ensures plain { (program : Program) (ps : List CompiledProcedure) (f : List ℕ)
-        (ts : List Tree) → link_of program ps f (length ts) ≡ Plain → IsPlainGoal program f ts }
+        (ts : List Tree) (b : B.Plain) → link_of program ps f (length ts) ≡ Plain b →
+        IsPlainGoal program f ts }
+    ensures built_in { (program : Program) (ps : List CompiledProcedure) (f : List ℕ)
+        (ts : List Tree) (b : B.Plain) → link_of program ps f (length ts) ≡ Plain b →
+        (plain_name b ≡ f) × (plain_arity b ≡ length ts) }
     ensures store { (program : Program) (ps : List CompiledProcedure) (f : List ℕ)
         (ts : List Tree) (k : StoreCall) → link_of program ps f (length ts) ≡ Store k →
         IsStoreGoal program f ts }

@@ -1,10 +1,13 @@
 //! Loaded programs.
-ghost use Rattle.std.specs.Prelude.{◌≡◌, ℕ, IfOk, IfSome, length, List, map, slice_get, Some};
+ghost use Rattle.std.specs.Prelude.{◌≡◌, ℕ, IfOk, IfSome, length, List, map, MatchOption, None};
+ghost use Rattle.std.specs.Prelude.{slice_get, Some};
 ghost use Rattle.ml_compile.specs.Spells.{StandsAt};
 ghost use Rattle.ml_compile.specs.declared.instr.Instr.{Instr};
 ghost use Rattle.ml_compile.specs.declared.instr.Instr.TheVariants.{Call};
+ghost use Rattle.ml_program.specs.DeclaredLists.{IsDeclaredAs};
 ghost use Rattle.ml_program.specs.Links.{link_beside, link_of};
 ghost use Rattle.ml_program.specs.LoadedProgram.{IsLoaded, procedures_of, program_of};
+ghost use Rattle.ml_search.specs.Program.{declaration_of};
 ghost use Rattle.ml_stack.specs.declared.frame.CodeName.TheVariants.{OfClause};
 ghost use Rattle.ml_term.specs.declared.declaration.Pred.{Pred};
 ghost use Rattle.ml_stack.specs.Memories.{code_of, CompiledProcedure, Contents};
@@ -16,7 +19,7 @@ use crate::tables::Tables;
 use ml_compile::{Code, Instr};
 use ml_search::Program;
 use ml_stack::CodeName;
-use ml_term::Pred;
+use ml_term::{Kind, Pred};
 use std::alloc::{AllocError, Global};
 use std::marker::Model;
 use std::snapshot::Snapshot;
@@ -84,6 +87,18 @@ impl Loaded {
             pred.now.arity }
     {
         self.tables.link_of(pred)
+    }
+
+    /// The kind of a declared predicate and the number of its list; nothing where it isn't
+    /// declared. It tells so of control constructs and built-ins too, whose links hide it. In
+    /// constant time, and it takes no memory.
+    pub fn declared(&self, pred: &Pred) -> Option<(Kind, u32)>
+        ensures { MatchOption result
+            (declaration_of (program_of self.now).decls pred.now.name pred.now.arity ≡ None)
+            (λ found. IsDeclaredAs (program_of self.now).decls pred.now.name pred.now.arity found.0
+            found.1) }
+    {
+        self.tables.declared(pred)
     }
 
     /// The links beside a code that was compiled at run time, one for each instruction.

@@ -1,81 +1,19 @@
 //! The names of built-ins.
 ghost use Rattle.std.specs.Prelude.{◌≡◌};
+ghost use Rattle.ml_builtin.specs.Tables.{plain_of};
 ghost use Rattle.ml_program.specs.Links.{control_call, control_calls_1, control_calls_3};
 ghost use Rattle.ml_program.specs.Links.{store_call, store_calls};
-ghost use Rattle.ml_program.specs.inside.PlainNames.{is_one_of, plain_names_1, plain_names_2};
-ghost use Rattle.ml_program.specs.inside.PlainNames.{plain_names_3};
-ghost use Rattle.ml_search.specs.Builtins.{is_plain};
 ghost use Rattle.ml_search.specs.Names.{look_up};
 
 use crate::link::{ControlCall, StoreCall};
+use ml_builtin::Plain;
 use ml_term::Pred;
 
-// The plain built-ins of one argument.
-const PLAIN_1: [&[u8]; 8] = [
-    b"var",
-    b"nonvar",
-    b"atom",
-    b"integer",
-    b"atomic",
-    b"compound",
-    b"callable",
-    b"ground",
-];
-
-// The plain built-ins of two arguments.
-const PLAIN_2: [&[u8]; 17] = [
-    b"=",
-    b"\\=",
-    b"=..",
-    b"copy_term",
-    b"is",
-    b"==",
-    b"\\==",
-    b"@<",
-    b"@=<",
-    b"@>",
-    b"@>=",
-    b"=:=",
-    b"=\\=",
-    b"<",
-    b"=<",
-    b">",
-    b">=",
-];
-
-// The plain built-ins of three arguments.
-const PLAIN_3: [&[u8]; 2] = [b"functor", b"arg"];
-
-fn is_plain_1(name: &[u8]) -> bool
-    ensures { result ≡ is_one_of plain_names_1 name.now }
+/// The plain built-in that a predicate is, if it is one.
+pub(crate) fn plain_call(pred: &Pred) -> Option<Plain>
+    ensures { result ≡ plain_of pred.now.name pred.now.arity }
 {
-    PLAIN_1.contains(&name)
-}
-
-fn is_plain_2(name: &[u8]) -> bool
-    ensures { result ≡ is_one_of plain_names_2 name.now }
-{
-    PLAIN_2.contains(&name)
-}
-
-fn is_plain_3(name: &[u8]) -> bool
-    ensures { result ≡ is_one_of plain_names_3 name.now }
-{
-    PLAIN_3.contains(&name)
-}
-
-/// Whether a predicate is a plain built-in.
-pub(crate) fn is_plain(pred: &Pred) -> bool
-    ensures { result ≡ is_plain pred.now.name pred.now.arity }
-{
-    let name = pred.name.as_slice();
-    match pred.arity {
-        0 => false,
-        1 => is_plain_1(name),
-        2 => is_plain_2(name),
-        3 => is_plain_3(name),
-        4.. => false,
-    }
+    Plain::of(&pred.name, pred.arity)
 }
 
 fn control_call_1(name: &[u8]) -> Option<ControlCall>

@@ -1,19 +1,20 @@
 //! The tables by which links are made.
-ghost use Rattle.std.specs.Prelude.{◌≡◌, IfOk, List, map};
+ghost use Rattle.std.specs.Prelude.{◌≡◌, IfOk, List, map, MatchOption, None};
+ghost use Rattle.ml_program.specs.DeclaredLists.{IsDeclaredAs};
 ghost use Rattle.ml_program.specs.Links.{link_beside, link_of};
 ghost use Rattle.ml_program.specs.inside.Filing.{procedure_seen, procedures_seen};
 ghost use Rattle.ml_program.specs.inside.Linking.{AreLinked, AreTablesOf};
-ghost use Rattle.ml_search.specs.Program.{Program};
+ghost use Rattle.ml_search.specs.Program.{declaration_of, Program};
 ghost use Rattle.ml_stack.specs.Memories.{CompiledProcedure};
 
 use crate::link::Link;
 use crate::links::Links;
-use crate::names::{control_call, is_plain, store_call};
+use crate::names::{control_call, plain_call, store_call};
 use crate::procedure::{LinkedProcedure, Procedure};
 use indexmap::IndexSet;
 use ml_compile::{Code, Instr};
 use ml_search::Decls;
-use ml_term::Pred;
+use ml_term::{Kind, Pred};
 use std::alloc::{AllocError, Global};
 
 /// The declarations of a program, and the predicates of its procedures in their order.
@@ -35,8 +36,8 @@ impl Tables {
         if let Some(control) = control_call(pred) {
             return Link::Control(control);
         }
-        if is_plain(pred) {
-            return Link::Plain;
+        if let Some(plain) = plain_call(pred) {
+            return Link::Plain(plain);
         }
         if let Some(store) = store_call(pred) {
             return Link::Store(store);
@@ -47,6 +48,22 @@ impl Tables {
         match self.places.get_index_of(pred) {
             Some(place) => Link::Procedure(place as u32),
             None => Link::Unknown,
+        }
+    }
+
+    /// The kind of a declared predicate and the number of its list. It takes no memory.
+    pub(crate) fn declared(&self, pred: &Pred) -> Option<(Kind, u32)>
+        requires { (program : Program) × (ps : List CompiledProcedure)
+            × AreTablesOf program ps self.now.decls self.now.places.keys }
+        ensures { (program : Program) (ps : List CompiledProcedure) →
+            AreTablesOf program ps self.now.decls self.now.places.keys →
+            MatchOption result
+            (declaration_of program.decls pred.now.name pred.now.arity ≡ None)
+            (λ found. IsDeclaredAs program.decls pred.now.name pred.now.arity found.0 found.1) }
+    {
+        match self.decls.place_of(pred) {
+            Some(place) => Some((self.decls.at(place).kind, place as u32)),
+            None => None,
         }
     }
 

@@ -5,6 +5,7 @@ ghost use Rattle.ml_term.specs.Tree.{atom};
 
 use crate::link::{ControlCall, Link, StoreCall};
 use crate::loaded::Loaded;
+use ml_builtin::{Binary, Plain, Relation};
 use ml_compile::compile_body;
 use ml_search::{Clause, Clauses, Decls, Program};
 use ml_stack::CodeName;
@@ -113,7 +114,12 @@ fn built_ins_have_links(rt: HostRuntime) -> Result<(), Fail> {
     let retract = built_in(&rt, alloc, b"retract", 1)?;
     let nothing = built_in(&rt, alloc, b"retract", 2)?;
     assert!(rt; matches!(call, Link::Control(ControlCall::Call)));
-    assert!(rt; matches!(compare, Link::Plain));
+    assert!(rt;
+        matches!(
+            compare,
+            Link::Plain(Plain::Two(Binary::Order(Relation::LessOrEqual)))
+        )
+    );
     assert!(rt; matches!(retract, Link::Store(StoreCall::Retract)));
     assert!(rt; matches!(nothing, Link::Unknown));
     Ok(())

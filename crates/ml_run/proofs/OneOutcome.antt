@@ -1,7 +1,7 @@
 -- The words lead to one outcome.
 use Rattle.std.proofs.Common.{◌≡◌, ◌∷◌, ◌+◌, [], refl, sym, ap, ◌∙◌, subst, length, ℕ, List, Result, Ok, Err, inl, inr, arith}
 use Rattle.ml_outside.specs.Held.{Files}
-use Rattle.ml_search.specs.Program.{Program, Script}
+use Rattle.ml_search.specs.Program.{Script}
 use Rattle.ml_reader.specs.Rules.{IsRules, RulesHaveFault}
 use Rattle.ml_reader.specs.ScriptTexts.{IsScript, HasScriptFault}
 use Rattle.ml_reader.specs.declared.fault.ReadFault.{ReadFault}
@@ -47,10 +47,10 @@ one_rules_come once apart files name a b h k =
     (one_found (λ bytes (r : RulesContent). IsRules bytes r.0 r.1) RulesHaveFault one_rules (one_rules_fault once apart)
     (rules_or_fault once apart) files name h.0 k.0 h.1 k.1) ∙ k.2
 
-one_script_comes : (files : Files) (p : Program) (n : ℕ) (name : List ℕ) (a b : Result Script Status) → ScriptComes files p n name a →
-    ScriptComes files p n name b → a ≡ b
-one_script_comes files p n name a b h k =
-    sym h.2 ∙ ap (script_comes p n) (one_found IsScript HasScriptFault one_script one_fault no_fault files name h.0 k.0 h.1 k.1) ∙ k.2
+one_script_comes : (files : Files) (n : ℕ) (name : List ℕ) (a b : Result Script Status) → ScriptComes files n name a →
+    ScriptComes files n name b → a ≡ b
+one_script_comes files n name a b h k =
+    sym h.2 ∙ ap (script_comes n) (one_found IsScript HasScriptFault one_script one_fault no_fault files name h.0 k.0 h.1 k.1) ∙ k.2
 
 one_behind : (first : Result Script Status) (Behind : Result (List Script) Status → Type 0) →
     ((x y : Result (List Script) Status) → Behind x → Behind y → x ≡ y)
@@ -58,18 +58,18 @@ one_behind : (first : Result Script Status) (Behind : Result (List Script) Statu
 one_behind (Err status) Behind one a b h k = h ∙ sym k
 one_behind (Ok s) Behind one a b h k = h.2 ∙ ap (with_script s) (one h.0 k.0 h.1 k.1) ∙ sym k.2
 
-one_scripts_come : (files : Files) (p : Program) (n : ℕ) (names : List (List ℕ)) (a b : Result (List Script) Status) → ScriptsCome files p n names a →
-    ScriptsCome files p n names b → a ≡ b
-one_scripts_come files p n [] a b h k = h ∙ sym k
-one_scripts_come files p n (name ∷ names) a b h k =
-    let same = one_script_comes files p n name h.0 k.0 h.1 k.1 in
-    let here = subst (λ first. FirstComes first (λ rest. ScriptsCome files p (1 + n) names rest) a) same h.2 in
-    one_behind k.0 (λ rest. ScriptsCome files p (1 + n) names rest) (one_scripts_come files p (1 + n) names) a b here k.2
+one_scripts_come : (files : Files) (n : ℕ) (names : List (List ℕ)) (a b : Result (List Script) Status) → ScriptsCome files n names a →
+    ScriptsCome files n names b → a ≡ b
+one_scripts_come files n [] a b h k = h ∙ sym k
+one_scripts_come files n (name ∷ names) a b h k =
+    let same = one_script_comes files n name h.0 k.0 h.1 k.1 in
+    let here = subst (λ first. FirstComes first (λ rest. ScriptsCome files (1 + n) names rest) a) same h.2 in
+    one_behind k.0 (λ rest. ScriptsCome files (1 + n) names rest) (one_scripts_come files (1 + n) names) a b here k.2
 
 one_rules_lead : (files : Files) (scripts : List (List ℕ)) (r : Result RulesContent Status) (a b : Outcome) → RulesLead files scripts r a →
     RulesLead files scripts r b → a ≡ b
 one_rules_lead files scripts (Err status) a b h k = h ∙ sym k
-one_rules_lead files scripts (Ok r) a b h k = h.2 ∙ ap (outcome_of r) (one_scripts_come files r.0 1 scripts h.0 k.0 h.1 k.1) ∙ sym k.2
+one_rules_lead files scripts (Ok r) a b h k = h.2 ∙ ap (outcome_of r) (one_scripts_come files 1 scripts h.0 k.0 h.1 k.1) ∙ sym k.2
 
 one_files : OneFault → ReadOrFault → (files : Files) (rules : List ℕ) (scripts : List (List ℕ)) (a b : Outcome) → FilesLead files rules scripts a →
     FilesLead files rules scripts b → a ≡ b

@@ -8,7 +8,7 @@ use Rattle.std.proofs.lemmas.Option.{IfSome_then}
 use Rattle.ml_term.proofs.KeyColumns.{and_first}
 use Rattle.ml_outside.specs.Held.{Files}
 use Rattle.ml_outside.specs.Causes.{Rose}
-use Rattle.ml_search.specs.Program.{Program, Script}
+use Rattle.ml_search.specs.Program.{Script}
 use Rattle.ml_run.specs.Words.{AreWords, NamesFile, is_file_name}
 use Rattle.ml_run.specs.Texts.{RulesContent}
 use Rattle.ml_run.specs.Outcomes.{Outcome, refusal, inputs, RulesCome, ScriptsCome, FilesLead, Leads, HasInputs, status_of}
@@ -16,7 +16,6 @@ use Rattle.ml_run.specs.inside.StepCauses.{Stops, ScriptsStop, IsReached, FilesS
 use Rattle.ml_run.specs.Causes.{Counts, IsCaused, IsQuiet, TellsOutcome, RefusesFile}
 use Rattle.ml_run.specs.declared.status.Status.{Status}
 use Rattle.ml_run.specs.declared.status.Status.TheVariants.{Done, BadWords, NoFile, TooLong, ReadFailed, RulesRefused, ScriptRefused, WriteFailed, OutOfMemory}
-use Rattle.ml_run.specs.declared.status.Status.TheVariants.{NotBuilt}
 use Rattle.ml_run.proofs.OneOutcome.{one_outcome}
 use Rattle.ml_run.proofs.RulesReadings.{OneFault, ReadOrFault}
 
@@ -43,12 +42,11 @@ stops_behind held Before Leading Leading' word before mid now (ScriptRefused k g
     (h.0, both held p h.1 (λ files p l. f files (ScriptRefused k g) p l))
 stops_behind held Before Leading Leading' word before mid now WriteFailed le p f h = absurd h.0
 stops_behind held Before Leading Leading' word before mid now OutOfMemory le p f h = tt
-stops_behind held Before Leading Leading' word before mid now (NotBuilt i) le p f h = (h.0, both held p h.1 (λ files p l. f files (NotBuilt i) p l))
 
 -- want of memory stops every step
-pub no_script_stops : (held : Option Files) (p : Program) (names : List (List ℕ)) (got before now : ℕ) → got < length names
-    → IfSome held (λ files. (ss : List Script) × ScriptsCome files p 1 (take got names) (Ok ss)) → ScriptsStop held p names before now OutOfMemory
-no_script_stops held p names got before now there reached = record { got = got; there = there; reached = reached; stops = tt }
+pub no_script_stops : (held : Option Files) (names : List (List ℕ)) (got before now : ℕ) → got < length names
+    → IfSome held (λ files. (ss : List Script) × ScriptsCome files 1 (take got names) (Ok ss)) → ScriptsStop held names before now OutOfMemory
+no_script_stops held names got before now there reached = record { got = got; there = there; reached = reached; stops = tt }
 
 -- what stops the rules stops the files
 pub rules_stop : (held : Option Files) (rules : List ℕ) (scripts : List (List ℕ)) (before now : ℕ) (status : Status)
@@ -73,7 +71,7 @@ rules_stop held rules scripts before now status h = record {
 
 -- what stops the scripts behind rules that were read stops the files
 pub scripts_stop : (held : Option Files) (rules : List ℕ) (scripts : List (List ℕ)) (r : RulesContent) (before mid now : ℕ) (status : Status) → before ≤ mid
-    → IfSome held (λ files. RulesCome files rules (Ok r)) → ScriptsStop held r.0 scripts mid now status → FilesStop held rules scripts before now status
+    → IfSome held (λ files. RulesCome files rules (Ok r)) → ScriptsStop held scripts mid now status → FilesStop held rules scripts before now status
 scripts_stop held rules scripts r before mid now status le read h = record {
   word = 2 + h.got;
   some = omega arith;
@@ -137,7 +135,6 @@ module _ (words : List (List ℕ)) (rules : List ℕ) (scripts : List (List ℕ)
   caused_at held counts word (ScriptRefused k f) names r h = (h.0.0, refuses held word (1 + k) (ScriptRefused k f) (sym h.0.1) names h.1)
   caused_at held counts word WriteFailed names r h = absurd h.0
   caused_at held counts word OutOfMemory names r h = tt
-  caused_at held counts word (NotBuilt i) names r h = refuses held word i (NotBuilt i) h.0 names h.1
 
   pub caused_by_files : (held : Option Files) (counts : Counts) (status : Status) → FilesStop held rules scripts counts.reads counts.reads_now status →
       IsCaused held words counts status
@@ -163,4 +160,3 @@ module _ (once : OneFault) (apart : ReadOrFault) where
   tells (Some files) words counts (ScriptRefused k f) quiet h = tells_refusal files words (ScriptRefused k f) h.1.1
   tells (Some files) words counts WriteFailed quiet h = absurd (quiet.no_write_fault h.0)
   tells (Some files) words counts OutOfMemory quiet h = λ outcome leads. inr refl
-  tells (Some files) words counts (NotBuilt i) quiet h = tells_refusal files words (NotBuilt i) h.1

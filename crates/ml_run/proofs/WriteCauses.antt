@@ -13,7 +13,6 @@ use Rattle.ml_run.specs.Words.{AreWords}
 use Rattle.ml_run.specs.declared.inputs.Inputs.{Inputs}
 use Rattle.ml_run.specs.declared.status.Status.{Status}
 use Rattle.ml_run.specs.declared.status.Status.TheVariants.{Done, BadWords, NoFile, TooLong, ReadFailed, RulesRefused, ScriptRefused, WriteFailed, OutOfMemory}
-use Rattle.ml_run.specs.declared.status.Status.TheVariants.{NotBuilt}
 use Rattle.ml_run.proofs.RefusalCauses.{files_lead}
 use Rattle.ml_run.proofs.WritesInTurn.{whole_front}
 
@@ -34,7 +33,6 @@ play_stops i faults faults_now before after (RulesRefused f) h p = absurd h
 play_stops i faults faults_now before after (ScriptRefused k f) h p = absurd h
 play_stops i faults faults_now before after WriteFailed h p = (h, p)
 play_stops i faults faults_now before after OutOfMemory h p = inr p
-play_stops i faults faults_now before after (NotBuilt n) h p = absurd h
 
 abbrev pub LeadsTo : Files → List ℕ → List (List ℕ) → Inputs → Type 0
 LeadsTo files rules scripts i = FilesLead files rules scripts (inputs (rules_seen i.rules).0 (rules_seen i.rules).1 (scripts_seen i.scripts.items))
@@ -68,4 +66,3 @@ module _ (words : List (List ℕ)) (rules : List ℕ) (scripts : List (List ℕ)
   caused_by_output held counts before after (ScriptRefused k f) l h = absurd h
   caused_by_output held counts before after WriteFailed l h = (h.0, has_inputs held counts l)
   caused_by_output held counts before after OutOfMemory l h = tt
-  caused_by_output held counts before after (NotBuilt n) l h = absurd h

@@ -7,7 +7,7 @@ use Rattle.std.proofs.lemmas.Grind.{flat_map-append}
 use Rattle.std.specs.List.{flat_map}
 use Rattle.std.specs.declared.alloc.Global.{Global}
 use Rattle.ml_outside.specs.Written.{Appended, AppendedFront}
-use Rattle.ml_run.specs.inside.Entries.{contents}
+use Rattle.ml_entries.specs.Entries.{contents}
 
 pub both_appended : (a b c : Option (List ℕ)) (xs ys : List ℕ) → Appended a b xs → Appended b c ys → Appended a c (xs ++ ys)
 both_appended None b c xs ys h k = k ∙ ap (option_map (λ w. w ++ ys)) h

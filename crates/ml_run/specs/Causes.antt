@@ -8,7 +8,7 @@ use Rattle.ml_run.specs.Outcomes.{Outcome, refusal, Leads, HasInputs, status_of}
 use Rattle.ml_run.specs.declared.status.Status.{Status}
 use Rattle.ml_run.specs.declared.status.Status.TheVariants.{Done, BadWords, NoFile, TooLong}
 use Rattle.ml_run.specs.declared.status.Status.TheVariants.{ReadFailed, RulesRefused, ScriptRefused}
-use Rattle.ml_run.specs.declared.status.Status.TheVariants.{WriteFailed, OutOfMemory, NotBuilt}
+use Rattle.ml_run.specs.declared.status.Status.TheVariants.{WriteFailed, OutOfMemory}
 
 -- the counts of faults of a shelf and of a sink, before a call and after it
 pub record Counts : Type 0 where
@@ -48,7 +48,6 @@ IsCaused held words counts (ScriptRefused k f) =
 IsCaused held words counts WriteFailed =
     Rose counts.writes counts.writes_now × IfSome held (λ files. HasInputs files words)
 IsCaused held words counts OutOfMemory = Unit {0}
-IsCaused held words counts (NotBuilt i) = RefusesFile held words i (NotBuilt i)
 
 -- no fault was counted
 pub record IsQuiet (counts : Counts) : Type 0 where

@@ -1,47 +1,34 @@
 -- The first refusal, or the inputs, for what a shelf holds: words first, then the rules, then each
 -- script in order. The code stops at the first refusal; here it is said what each file comes to.
-use Rattle.std.specs.Prelude.{◌≡◌, ◌⊎◌, ◌+◌, ◌&&◌, ℕ, Bool, true, false, List, [], ◌∷◌, Result, Ok}
-use Rattle.std.specs.Prelude.{Err, if◌then◌else◌}
-use Rattle.std.specs.List.{list_all}
+use Rattle.std.specs.Prelude.{◌≡◌, ◌⊎◌, ◌+◌, ℕ, List, [], ◌∷◌, Result, Ok, Err}
 use Rattle.ml_outside.specs.Held.{Files}
 use Rattle.ml_term.specs.Tree.{Tree}
-use Rattle.ml_search.specs.Program.{Program, Clause, Script, is_relation}
-use Rattle.ml_relation.specs.Calls.{is_of_relations}
+use Rattle.ml_search.specs.Program.{Program, Script}
 use Rattle.ml_run.specs.Words.{AreWords, AreBad}
 use Rattle.ml_run.specs.Texts.{FileContent, no_file, over_limit, fault_in, content, RulesContent}
 use Rattle.ml_run.specs.Texts.{AreRules, IsScriptFile}
 use Rattle.ml_run.specs.declared.status.Status.{Status}
 use Rattle.ml_run.specs.declared.status.Status.TheVariants.{Done, BadWords, NoFile, TooLong}
-use Rattle.ml_run.specs.declared.status.Status.TheVariants.{RulesRefused, ScriptRefused, NotBuilt}
+use Rattle.ml_run.specs.declared.status.Status.TheVariants.{RulesRefused, ScriptRefused}
 
 -- a refusal by its status, or the program, its initial items and the scripts
 pub data Outcome : Type 0 where
   refusal : Status → Outcome
   inputs : Program → List (ℕ × Tree) → List Script → Outcome
 
--- whether there are no clauses
-abbrev pub is_no_clause : List Clause → Bool
-is_no_clause [] = true
-is_no_clause (c ∷ cs) = false
-
--- whether a program is one that is run so far: it declares relations alone and has no clauses
-abbrev pub is_built : Program → Bool
-is_built p = list_all is_relation p.decls && is_no_clause p.clauses
-
 -- what rules come to
 abbrev pub rules_come : FileContent RulesContent → Result RulesContent Status
 rules_come no_file = Err (NoFile 1)
 rules_come over_limit = Err (TooLong 1)
 rules_come (fault_in f) = Err (RulesRefused f)
-rules_come (content r) = if is_built r.0 then Ok r else Err (NotBuilt 1)
+rules_come (content r) = Ok r
 
--- what script k comes to, from 1; word 1 + k names it. One whose goals aren't all calls of
--- relations, or that doesn't commit, isn't run so far
-abbrev pub script_comes : Program → ℕ → FileContent Script → Result Script Status
-script_comes p k no_file = Err (NoFile (1 + k))
-script_comes p k over_limit = Err (TooLong (1 + k))
-script_comes p k (fault_in f) = Err (ScriptRefused k f)
-script_comes p k (content s) = if is_of_relations p.decls s then Ok s else Err (NotBuilt (1 + k))
+-- what script k comes to, from 1; word 1 + k names it
+abbrev pub script_comes : ℕ → FileContent Script → Result Script Status
+script_comes k no_file = Err (NoFile (1 + k))
+script_comes k over_limit = Err (TooLong (1 + k))
+script_comes k (fault_in f) = Err (ScriptRefused k f)
+script_comes k (content s) = Ok s
 
 -- the file of the rules comes to this
 abbrev pub RulesCome : Files → List ℕ → Result RulesContent Status → Type 0
@@ -49,9 +36,9 @@ RulesCome files name r =
     (found : FileContent RulesContent) × AreRules files name found × (rules_come found ≡ r)
 
 -- the file of script k comes to this
-abbrev pub ScriptComes : Files → Program → ℕ → List ℕ → Result Script Status → Type 0
-ScriptComes files p k name r =
-    (found : FileContent Script) × IsScriptFile files name found × (script_comes p k found ≡ r)
+abbrev pub ScriptComes : Files → ℕ → List ℕ → Result Script Status → Type 0
+ScriptComes files k name r =
+    (found : FileContent Script) × IsScriptFile files name found × (script_comes k found ≡ r)
 
 -- scripts with one before them
 abbrev pub with_script : Script → Result (List Script) Status → Result (List Script) Status
@@ -67,11 +54,11 @@ FirstComes (Ok s) Behind r =
     (rest : Result (List Script) Status) × Behind rest × (r ≡ with_script s rest)
 
 -- the files of the scripts from number k on come to this
-abbrev pub ScriptsCome : Files → Program → ℕ → List (List ℕ) → Result (List Script) Status → Type 0
-ScriptsCome files p k [] r = r ≡ Ok []
-ScriptsCome files p k (name ∷ names) r =
-    (first : Result Script Status) × ScriptComes files p k name first
-    × FirstComes first (λ rest. ScriptsCome files p (1 + k) names rest) r
+abbrev pub ScriptsCome : Files → ℕ → List (List ℕ) → Result (List Script) Status → Type 0
+ScriptsCome files k [] r = r ≡ Ok []
+ScriptsCome files k (name ∷ names) r =
+    (first : Result Script Status) × ScriptComes files k name first
+    × FirstComes first (λ rest. ScriptsCome files (1 + k) names rest) r
 
 -- what the rules and all scripts come to
 abbrev pub outcome_of : RulesContent → Result (List Script) Status → Outcome
@@ -82,7 +69,7 @@ outcome_of r (Err status) = refusal status
 abbrev pub RulesLead : Files → List (List ℕ) → Result RulesContent Status → Outcome → Type 0
 RulesLead files scripts (Err status) outcome = outcome ≡ refusal status
 RulesLead files scripts (Ok r) outcome =
-    (ss : Result (List Script) Status) × ScriptsCome files r.0 1 scripts ss
+    (ss : Result (List Script) Status) × ScriptsCome files 1 scripts ss
     × (outcome ≡ outcome_of r ss)
 
 -- what the files of these names lead to

@@ -5,7 +5,7 @@ use Rattle.ml_run.specs.Faults.{fault_text}
 use Rattle.ml_run.specs.declared.status.Status.{Status}
 use Rattle.ml_run.specs.declared.status.Status.TheVariants.{Done, BadWords, NoFile, TooLong}
 use Rattle.ml_run.specs.declared.status.Status.TheVariants.{ReadFailed, RulesRefused, ScriptRefused}
-use Rattle.ml_run.specs.declared.status.Status.TheVariants.{WriteFailed, OutOfMemory, NotBuilt}
+use Rattle.ml_run.specs.declared.status.Status.TheVariants.{WriteFailed, OutOfMemory}
 
 -- the number of a status, with which the program is to end
 abbrev pub exit_number : Status → ℕ
@@ -18,14 +18,12 @@ exit_number (RulesRefused f) = 6
 exit_number (ScriptRefused k f) = 7
 exit_number WriteFailed = 9
 exit_number OutOfMemory = 11
-exit_number (NotBuilt i) = 13
 
 -- a status that names a word names one of the first n
 abbrev pub NamesWord : ℕ → Status → Type 0
 NamesWord n (NoFile i) = i < n
 NamesWord n (TooLong i) = i < n
 NamesWord n (ReadFailed i) = i < n
-NamesWord n (NotBuilt i) = i < n
 NamesWord n status = Unit {0}
 
 -- a line that tells of a fault, and of the name that it concerns
@@ -53,4 +51,3 @@ fault_line (ScriptRefused k f) words =
     message_line (codes "script ") (decimal_text k ++ codes " " ++ fault_text f)
 fault_line WriteFailed words = message_line (codes "cannot write") []
 fault_line OutOfMemory words = message_line (codes "out of memory") []
-fault_line (NotBuilt i) words = message_line (codes "not built ") (word_at words i)

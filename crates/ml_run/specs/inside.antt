@@ -1,4 +1,3 @@
 pub mod StepCauses
 pub mod Seen
-pub mod Entries
 pub mod RunAndPrint

@@ -1,16 +1,12 @@
 //! Runs sessions over what a shelf holds, and prints what they did.
 //!
 //! It stands on ml_search, which says what a history and its print are, on ml_reader, which reads
-//! rules and scripts, on ml_relation, which runs a session, on ml_writer, which writes its lines,
-//! and on ml_outside, where files are fetched and output goes. `specs/Outcomes.antt` says to which
-//! inputs or to which first refusal the words lead, `specs/Prints.antt` what is printed; `serial`
-//! carries the headline.
-//!
-//! With ml_relation go `is_built`, the refusals `NotBuilt`, and what `Inputs` keeps of sessions;
-//! the machine takes all goals.
+//! rules and scripts, on ml_entries, which runs the sessions and makes their blocks, and on
+//! ml_outside, where files are fetched and output goes. `specs/Outcomes.antt` says to which inputs
+//! or to which first refusal the words lead, `specs/Prints.antt` what is printed; `serial` carries
+//! the headline.
 #![tactic(auto)]
 
-mod entries;
 mod fault;
 mod inputs;
 mod limits;

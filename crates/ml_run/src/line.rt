@@ -27,7 +27,6 @@ pub fn line_of(alloc: Global, status: &Status, words: &[&str]) -> Result<Vec<u8>
         Status::ScriptRefused(number, fault) => script_line(alloc, number, &fault),
         Status::WriteFailed => message_line(alloc, "cannot write", ""),
         Status::OutOfMemory => message_line(alloc, "out of memory", ""),
-        Status::NotBuilt(word) => message_line(alloc, "not built ", words[word]),
     }
 }
 

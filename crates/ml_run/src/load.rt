@@ -1,13 +1,11 @@
 //! Fetches and reads the texts that the words name.
 ghost use Rattle.std.specs.Prelude.{◌≡◌, ◌≤◌, ◌+◌, false, IsTrue, IfOk, IfErr, IfSome, Ok, Err};
 ghost use Rattle.std.specs.Prelude.{length};
-ghost use Rattle.std.specs.List.{list_all};
-ghost use Rattle.ml_search.specs.ProgramSeen.{program_seen, script_seen};
-ghost use Rattle.ml_relation.specs.Calls.{is_of_relations};
+ghost use Rattle.ml_search.specs.ProgramSeen.{script_seen};
 ghost use Rattle.ml_run.specs.Limits.{max_scripts, max_text_bytes};
 ghost use Rattle.ml_run.specs.Words.{texts};
 ghost use Rattle.ml_run.specs.Texts.{HoldsText};
-ghost use Rattle.ml_run.specs.Outcomes.{inputs, is_built, RulesCome, ScriptComes, ScriptsCome};
+ghost use Rattle.ml_run.specs.Outcomes.{inputs, RulesCome, ScriptComes, ScriptsCome};
 ghost use Rattle.ml_run.specs.Outcomes.{FilesLead};
 ghost use Rattle.ml_run.specs.inside.StepCauses.{FetchStops, Stops, ScriptsStop, FilesStop};
 ghost use Rattle.ml_run.specs.inside.Seen.{rules_seen, scripts_seen};
@@ -17,8 +15,7 @@ use crate::limits::MAX_TEXT_BYTES;
 use crate::status::Status;
 use ml_outside::{FetchStop, Shelf};
 use ml_reader::{ReadStop, Rules, read_rules, read_script};
-use ml_relation::{are_relations, is_of_relations};
-use ml_search::{Program, Script};
+use ml_search::Script;
 use std::alloc::Global;
 
 /// The rules and the scripts under these names: word 1 names the rules, and word 1 + k script k.
@@ -39,7 +36,7 @@ pub fn load<S: Shelf>(
     ensures held { S.held shelf.new ≡ S.held shelf.old }
 {
     let rules = load_rules(alloc, shelf, rules_file)?;
-    let scripts = load_scripts(alloc, shelf, script_files, &rules.program)?;
+    let scripts = load_scripts(alloc, shelf, script_files)?;
     Ok(Inputs { rules, scripts })
 }
 
@@ -47,7 +44,6 @@ pub fn load<S: Shelf>(
 fn load_rules<S: Shelf>(alloc: Global, shelf: &mut S, file: &str) -> Result<Rules, Status>
     ensures ok { IfOk result
         (λ r. IfSome (S.held shelf.old) (λ files. RulesCome files file.now (Ok (rules_seen r)))) }
-    ensures built { IfOk result (λ r. IsTrue (is_built (program_seen r.program))) }
     ensures err { IfErr result
         (λ status. Stops (S.held shelf.old)
         (λ files status. RulesCome files file.now (Err status)) 1 (S.faults shelf.old)
@@ -57,29 +53,10 @@ fn load_rules<S: Shelf>(alloc: Global, shelf: &mut S, file: &str) -> Result<Rule
 {
     let bytes = fetch_text(alloc, shelf, file, 1)?;
     match read_rules(alloc, &bytes) {
-        Ok(rules) => if_built(rules),
+        Ok(rules) => Ok(rules),
         Err(ReadStop::Fault(fault)) => Err(Status::RulesRefused(fault)),
         Err(ReadStop::OutOfMemory) => Err(Status::OutOfMemory),
     }
-}
-
-// Rules that are run so far.
-fn if_built(rules: Rules) -> Result<Rules, Status>
-    ensures ok { IfOk result (λ r. (r ≡ rules) × IsTrue (is_built (program_seen r.program))) }
-    ensures err { IfErr result
-        (λ status. (status ≡ Status.NotBuilt 1) × (is_built (program_seen rules.program) ≡ false)) }
-{
-    if is_built(&rules.program) {
-        return Ok(rules);
-    }
-    Err(Status::NotBuilt(1))
-}
-
-// Whether a program declares relations alone and has no clauses.
-fn is_built(program: &Program) -> bool
-    ensures { result ≡ is_built (program_seen program.now) }
-{
-    are_relations(&program.decls) && program.clauses.as_slice().is_empty()
 }
 
 // The scripts under these names.
@@ -87,25 +64,21 @@ fn load_scripts<S: Shelf>(
     alloc: Global,
     shelf: &mut S,
     names: &[&str],
-    program: &Program,
 ) -> Result<Vec<Script>, Status>
     requires { length names.now ≤ max_scripts }
     ensures ok { IfOk result
         (λ ss. IfSome (S.held shelf.old)
-        (λ files. ScriptsCome files (program_seen program.now) 1 (texts names.now)
-        (Ok (scripts_seen ss.items)))) }
-    ensures sessions { IfOk result
-        (λ ss. IsTrue (list_all (is_of_relations program.now.decls) (scripts_seen ss.items))) }
+        (λ files. ScriptsCome files 1 (texts names.now) (Ok (scripts_seen ss.items)))) }
     ensures few { IfOk result (λ ss. length ss.items ≤ max_scripts) }
     ensures err { IfErr result
-        (λ status. ScriptsStop (S.held shelf.old) (program_seen program.now) (texts names.now)
-        (S.faults shelf.old) (S.faults shelf.new) status) }
+        (λ status. ScriptsStop (S.held shelf.old) (texts names.now) (S.faults shelf.old)
+        (S.faults shelf.new) status) }
     ensures held { S.held shelf.new ≡ S.held shelf.old }
     ensures later { S.faults shelf.old ≤ S.faults shelf.new }
 {
     let mut scripts = Vec::new(alloc);
     for i in 0..names.len() {
-        let script = load_script(alloc, shelf, names[i], i as u32 + 1, program)?;
+        let script = load_script(alloc, shelf, names[i], i as u32 + 1)?;
         scripts.push(script)?;
     }
     Ok(scripts)
@@ -117,34 +90,26 @@ fn load_script<S: Shelf>(
     shelf: &mut S,
     name: &str,
     number: u32,
-    program: &Program,
 ) -> Result<Script, Status>
     requires some { 1 ≤ number }
     requires few { number ≤ max_scripts }
     ensures ok { IfOk result
         (λ s. IfSome (S.held shelf.old)
-        (λ files. ScriptComes files (program_seen program.now) number name.now
-        (Ok (script_seen s)))) }
-    ensures session { IfOk result
-        (λ s. IsTrue (is_of_relations program.now.decls (script_seen s))) }
+        (λ files. ScriptComes files number name.now (Ok (script_seen s)))) }
     ensures err { IfErr result
         (λ status. Stops (S.held shelf.old)
-        (λ files status. ScriptComes files (program_seen program.now) number name.now (Err status))
+        (λ files status. ScriptComes files number name.now (Err status))
         (1 + number) (S.faults shelf.old) (S.faults shelf.new) status) }
     ensures held { S.held shelf.new ≡ S.held shelf.old }
     ensures later { S.faults shelf.old ≤ S.faults shelf.new }
 {
     let word = 1 + number as usize;
     let bytes = fetch_text(alloc, shelf, name, word)?;
-    let script = match read_script(alloc, &bytes) {
-        Ok(script) => script,
-        Err(ReadStop::Fault(fault)) => return Err(Status::ScriptRefused(number, fault)),
-        Err(ReadStop::OutOfMemory) => return Err(Status::OutOfMemory),
-    };
-    if !is_of_relations(&program.decls, &script) {
-        return Err(Status::NotBuilt(word));
+    match read_script(alloc, &bytes) {
+        Ok(script) => Ok(script),
+        Err(ReadStop::Fault(fault)) => Err(Status::ScriptRefused(number, fault)),
+        Err(ReadStop::OutOfMemory) => Err(Status::OutOfMemory),
     }
-    Ok(script)
 }
 
 // The text under a name, which a word gives.

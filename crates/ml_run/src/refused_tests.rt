@@ -52,27 +52,14 @@ fn rules_are_refused_at_their_first_fault(rt: HostRuntime) -> Result<(), Fail> {
     Ok(())
 }
 
-// Rules, a script, the number of the status, and what its line tells, where the rules are read and
-// one of the two isn't run yet, or the script has a fault.
-const OTHERS: [(&[u8], &[u8], u8, &[u8]); 9] = [
+// Rules, a script with a fault, the number of the status, and what its line tells.
+const OTHERS: [(&[u8], &[u8], u8, &[u8]); 2] = [
     (RULES, b"p(1).", 7, b"script 1 BadScriptItem at 0"),
     (RULES, b"?- p(X). ?- p(", 7, b"script 1 Unexpected at 14"),
-    (b"p(1).", b"?- p(X).", 13, b"not built rules.pl"),
-    (b":- clauses(c/1). c(1).", b"", 13, b"not built rules.pl"),
-    (b":- relation(p/2).", b"?- p(X).", 13, b"not built s1"),
-    (b"", b"?- p(X).", 13, b"not built s1"),
-    (RULES, b"?- p(X), p(Y).", 13, b"not built s1"),
-    (RULES, b"?- p(X). :- abort.", 13, b"not built s1"),
-    (
-        RULES,
-        b"?- p(X). :- commit_unless(p(1)).",
-        13,
-        b"not built s1",
-    ),
 ];
 
 #[test]
-fn a_text_that_is_not_run_is_told(rt: HostRuntime) -> Result<(), Fail> {
+fn a_script_with_a_fault_is_told(rt: HostRuntime) -> Result<(), Fail> {
     let alloc = rt.alloc();
     for (rules, script, number, text) in OTHERS {
         let mut shelf = shelf_of(alloc, rules, script)?;
@@ -202,10 +189,7 @@ fn a_fact_of_4096_nodes_is_read_and_one_of_more_is_not(rt: HostRuntime) -> Resul
     let alloc = rt.alloc();
     let mut shelf = shelf_of(alloc, &rules_of_zeros(alloc, 2047)?, b"")?;
     let mut out = MemSink::new(alloc);
-    assert_eq!(rt;
-        serial(alloc, &WORDS, &mut shelf, &mut out),
-        Status::NotBuilt(1)
-    );
+    assert_eq!(rt; serial(alloc, &WORDS, &mut shelf, &mut out), Status::Done);
     shelf.put(alloc, "rules.pl", &rules_of_zeros(alloc, 2048)?)?;
     let wanted = ReadFault {
         place: 0,
@@ -215,6 +199,6 @@ fn a_fact_of_4096_nodes_is_read_and_one_of_more_is_not(rt: HostRuntime) -> Resul
         serial(alloc, &WORDS, &mut shelf, &mut out),
         Status::RulesRefused(wanted)
     );
-    assert!(rt; out.bytes().is_empty());
+    assert_eq!(rt; out.bytes(), b"session 1 committed\n".as_slice());
     Ok(())
 }

@@ -3,16 +3,14 @@ ghost use Rattle.std.specs.Prelude.{◌≡◌, ◌≤◌, ℕ, List, IfErr, OnOk
 ghost use Rattle.std.specs.List.{flat_map};
 ghost use Rattle.ml_outside.specs.Written.{Appended, AppendedFront};
 ghost use Rattle.ml_run.specs.inside.StepCauses.{WriteStops};
-ghost use Rattle.ml_run.specs.inside.Entries.{contents};
+ghost use Rattle.ml_entries.specs.Entries.{contents};
 ghost use Rattle.ml_run.specs.inside.RunAndPrint.{PrintsInputs, PrintStops};
 
-use crate::entries::blocks_of;
 use crate::inputs::Inputs;
 use crate::status::Status;
+use ml_entries::blocks_of;
 use ml_outside::{Sink, WriteStop};
 use ml_reader::Rules;
-use ml_relation::Relations;
-use ml_relation::laws::sessions_leave_relations;
 use std::alloc::Global;
 
 /// Runs the sessions in order of number, and then prints each by one write.
@@ -25,9 +23,7 @@ pub fn run_and_print<K: Sink>(alloc: Global, inputs: Inputs, out: &mut K) -> Res
 {
     let Inputs { rules, scripts } = inputs;
     let Rules { program, items } = rules;
-    let relations = Relations::from_items(alloc, &program.decls, items.into_vec())?;
-    sessions_leave_relations(&relations);
-    let blocks = blocks_of(alloc, &program, &relations, &scripts)?;
+    let blocks = blocks_of(alloc, &program, items.into_vec(), &scripts)?;
     write_blocks(alloc, out, &blocks)
 }
 

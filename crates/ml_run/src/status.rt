@@ -26,8 +26,6 @@ pub enum Status {
     WriteFailed,
     /// Memory was refused.
     OutOfMemory,
-    /// What is held under the name that this word gives isn't run yet.
-    NotBuilt(usize),
 }
 
 impl Status {
@@ -47,7 +45,6 @@ impl Status {
             Status::ScriptRefused(_, _) => 7,
             Status::WriteFailed => 9,
             Status::OutOfMemory => 11,
-            Status::NotBuilt(_) => 13,
         }
     }
 }

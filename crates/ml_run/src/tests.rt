@@ -21,7 +21,7 @@ pub fn shelf_of(alloc: Global, rules: &[u8], script: &[u8]) -> Result<MemShelf, 
 }
 
 // Rules, a script, and what is printed for them.
-const RUNS: [(&[u8], &[u8], &[u8]); 14] = [
+const RUNS: [(&[u8], &[u8], &[u8]); 18] = [
     (RULES, b"?- p(X).", PRINTED),
     (
         b":- relation(p/1). p(10). p(9). p(10). p(2305843009213693951).",
@@ -82,6 +82,26 @@ goal 2\n  error resource_error(inferences)\n",
         b"?- a(_). ?- b(X,N).",
         b"session 1 committed\ngoal 1\n  true\n  1 answers\n\
 goal 2\n  X = y, N = 1\n  X = x, N = 2\n  2 answers\n",
+    ),
+    (
+        b"a(1). a(2). b(X) :- a(X), !.",
+        b"?- b(X).",
+        b"session 1 committed\ngoal 1\n  X = 1\n  1 answers\n",
+    ),
+    (
+        b"a(1). a(2).",
+        b"?- a(X), !, fail.",
+        b"session 1 committed\ngoal 1\n  0 answers\n",
+    ),
+    (
+        b":- clauses(c/1). c(1). c(X) :- a(X). a(2).",
+        b"?- c(X).",
+        b"session 1 committed\ngoal 1\n  X = 1\n  X = 2\n  2 answers\n",
+    ),
+    (
+        b"a(1).",
+        b"?- a(X). :- abort.",
+        b"session 1 aborted\ngoal 1\n  X = 1\n  1 answers\n",
     ),
 ];
 

@@ -1,1 +1,9 @@
 pub mod LedAnswers
+pub mod ItemsFit
+pub mod LinesAdded
+pub mod LinesOfAnswers
+pub mod SearchesGoOn
+pub mod SearchesStop
+pub mod BindingsPut
+pub mod FormalTerms
+pub mod PrefixesOn

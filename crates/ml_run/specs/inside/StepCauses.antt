@@ -12,7 +12,7 @@ use Rattle.ml_run.specs.Outcomes.{refusal, inputs, ScriptsCome, FilesLead}
 use Rattle.ml_run.specs.declared.status.Status.{Status}
 use Rattle.ml_run.specs.declared.status.Status.TheVariants.{NoFile, TooLong, ReadFailed}
 use Rattle.ml_run.specs.declared.status.Status.TheVariants.{RulesRefused, ScriptRefused}
-use Rattle.ml_run.specs.declared.status.Status.TheVariants.{WriteFailed, OutOfMemory, NotBuilt}
+use Rattle.ml_run.specs.declared.status.Status.TheVariants.{WriteFailed, OutOfMemory}
 
 -- more bytes than the limit stand under the name
 abbrev pub HoldsLong : Files → List ℕ → Type 0
@@ -35,7 +35,6 @@ TellsOf word (NoFile i) = i ≡ word
 TellsOf word (TooLong i) = i ≡ word
 TellsOf word (RulesRefused f) = word ≡ 1
 TellsOf word (ScriptRefused k f) = (1 ≤ k) × (word ≡ 1 + k)
-TellsOf word (NotBuilt i) = i ≡ word
 TellsOf word status = ⊥
 
 -- Why what stands under the name that a word gives isn't had, where it is said to which refusals
@@ -47,13 +46,13 @@ Stops held Leading word before now status =
     TellsOf word status × IfSome held (λ files. Leading files status)
 
 -- why scripts aren't had: so many before were read, and the next one stops it
-pub record ScriptsStop (held : Option Files) (p : Program) (names : List (List ℕ)) (before now : ℕ)
+pub record ScriptsStop (held : Option Files) (names : List (List ℕ)) (before now : ℕ)
     (status : Status) : Type 0 where
   pub got : ℕ
   pub there : got < length names
   pub reached : IfSome held
-      (λ files. (ss : List Script) × ScriptsCome files p 1 (take got names) (Ok ss))
-  pub stops : Stops held (λ files status. ScriptsCome files p 1 names (Err status))
+      (λ files. (ss : List Script) × ScriptsCome files 1 (take got names) (Ok ss))
+  pub stops : Stops held (λ files status. ScriptsCome files 1 names (Err status))
       (2 + got) before now status
 
 -- no file before that of a word is refused: it is that of the rules, or the rules and the scripts

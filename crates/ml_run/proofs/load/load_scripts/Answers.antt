@@ -5,13 +5,12 @@ use Rattle.std.proofs.Math.Seq.{split_at}
 use Rattle.std.proofs.lemmas.List.{length-map, map-append, take_more, take_all}
 use Rattle.std.proofs.lemmas.Option.{IfSome_then}
 use Rattle.std.proofs.lemmas.Result.{err_from_is_err_and}
-use Rattle.ml_search.specs.ProgramSeen.{program_seen, script_seen}
-use Rattle.ml_relation.specs.Calls.{is_of_relations}
+use Rattle.ml_search.specs.ProgramSeen.{script_seen}
 use Rattle.ml_run.specs.Outcomes.{ScriptsCome}
 use Rattle.ml_run.specs.inside.Seen.{scripts_seen}
 use Rattle.ml_run.specs.Words.{texts}
 use Rattle.ml_run.proofs.RefusalCauses.{no_script_stops}
-use Rattle.ml_run.proofs.ScriptsInTurn.{all_come, script_stops, each_more, all_more}
+use Rattle.ml_run.proofs.ScriptsInTurn.{all_come, script_stops, each_more}
 use Rattle.ml_run.proofs.load.load_scripts.Goals as goal
 
 abbrev nothing : Bor (List ℕ)
@@ -36,7 +35,7 @@ returns-in_err-script-clause-err g c =
     let names = c.args.names.now in
     let stopped = rw c.loop-i.invariant.held at c.in_err-script.ensures.err in
     rw (p.1, p.2)
-    (script_stops (g.S.Shelf.held c.args.shelf.now) (program_seen c.args.program.now) (texts names) c.loop-i.i (c.loop-i.i + 1)
+    (script_stops (g.S.Shelf.held c.args.shelf.now) (texts names) c.loop-i.i (c.loop-i.i + 1)
     (scripts_seen c.loop-i.scripts.items) _ _ _ _ c.in_err-script.field-0.0
     (as_many names c.loop-i.i c.loop-i-test.true) (parts names c.loop-i.i c.loop-i-test.true) refl c.loop-i.invariant.later c.loop-i.invariant.each stopped)
 
@@ -46,9 +45,9 @@ returns-in_err-push-clause-err g c =
     let names = c.args.names.now in
     let i = c.loop-i.i in
     let ss = scripts_seen c.loop-i.scripts.items in
-    rw (p.1, p.2) (no_script_stops (g.S.Shelf.held c.args.shelf.now) (program_seen c.args.program.now) (texts names) i _ _ (as_many names i c.loop-i-test.true)
+    rw (p.1, p.2) (no_script_stops (g.S.Shelf.held c.args.shelf.now) (texts names) i _ _ (as_many names i c.loop-i-test.true)
     (IfSome_then (g.S.Shelf.held c.args.shelf.now) c.loop-i.invariant.each
-    (λ files h. (ss, all_come files (program_seen c.args.program.now) 1 (take i (texts names)) ss h))))
+    (λ files h. (ss, all_come files 1 (take i (texts names)) ss h))))
 
 pub loop-i-preserved : goal.loop-i-preserved
 loop-i-preserved g c =
@@ -60,13 +59,10 @@ loop-i-preserved g c =
     ap scripts_seen c.in_ok-push.ensures.items ∙ map-append script_seen ss (s ∷ []) in
     let comes = rw c.loop-i.invariant.held at c.in_ok-script.ensures.ok in record {
       each =
-          each_more (g.S.Shelf.held c.args.shelf.now) (program_seen c.args.program.now) (texts names) i (scripts_seen ss) _ (script_seen s) _
+          each_more (g.S.Shelf.held c.args.shelf.now) (texts names) i (scripts_seen ss) _ (script_seen s) _
           (as_many names i c.loop-i-test.true) (one_more names i c.loop-i-test.true) more
           c.loop-i.invariant.each comes;
       count = omega (arith, ap length c.in_ok-push.ensures.items, length-append ss (s ∷ []), c.loop-i.invariant.count);
-      sessions =
-          all_more (is_of_relations c.args.program.now.decls) (scripts_seen ss) _
-          (script_seen s) more c.loop-i.invariant.sessions c.in_ok-script.ensures.session;
       held = c.in_ok-script.ensures.held ∙ c.loop-i.invariant.held;
       later = omega (arith, c.loop-i.invariant.later, c.in_ok-script.ensures.later);
     }
@@ -74,8 +70,7 @@ loop-i-preserved g c =
 pub returns-clause-ok : goal.returns-clause-ok
 returns-clause-ok g c =
     let names = texts c.args.names.now in
-    let p = program_seen c.args.program.now in
     let ss = scripts_seen c.loop-i.scripts.items in
     let all = take_all c.loop-i.i names (omega (arith, c.loop-i-test.false, length-map c.args.names.now (λ word. word.now))) in
     IfSome_then (g.S.Shelf.held c.args.shelf.now) c.loop-i.invariant.each
-    (λ files h. subst (λ ns. ScriptsCome files p 1 ns (Ok ss)) all (all_come files p 1 (take c.loop-i.i names) ss h))
+    (λ files h. subst (λ ns. ScriptsCome files 1 ns (Ok ss)) all (all_come files 1 (take c.loop-i.i names) ss h))

@@ -1,7 +1,4 @@
-use Rattle.std.proofs.Common.{◌≡◌, ◌≤◌, true, IfSome, length, take}
-use Rattle.std.specs.List.{list_all}
-use Rattle.ml_search.specs.ProgramSeen.{program_seen}
-use Rattle.ml_relation.specs.Calls.{is_of_relations}
+use Rattle.std.proofs.Common.{◌≡◌, ◌≤◌, IfSome, length, take}
 use Rattle.ml_run.specs.inside.Seen.{scripts_seen}
 use Rattle.ml_run.specs.Words.{texts}
 use Rattle.ml_run.proofs.ScriptsInTurn.{EachComes}
@@ -10,9 +7,8 @@ use Rattle.ml_run.proofs.load.load_scripts.Given as goal
 -- the scripts so far are those of the first names
 abbrev pub invariant-loop-i : goal.invariant-loop-i
 invariant-loop-i g l = record {
-  each : IfSome (g.S.Shelf.held l.fn.shelf) (λ files. EachComes files (program_seen l.program) 1 (take l.i (texts l.names)) (scripts_seen l.scripts.items));
+  each : IfSome (g.S.Shelf.held l.fn.shelf) (λ files. EachComes files 1 (take l.i (texts l.names)) (scripts_seen l.scripts.items));
   count : length l.scripts.items ≡ l.i;
-  sessions : list_all (is_of_relations l.program.decls) (scripts_seen l.scripts.items) ≡ true;
   held : g.S.Shelf.held l.shelf ≡ g.S.Shelf.held l.fn.shelf;
   later : g.S.Shelf.faults l.fn.shelf ≤ g.S.Shelf.faults l.shelf;
 }

@@ -1,7 +1,7 @@
 use Rattle.std.proofs.Common.{◌≤◌, take}
 use Rattle.std.specs.List.{flat_map}
 use Rattle.ml_outside.specs.Written.{Appended}
-use Rattle.ml_run.specs.inside.Entries.{contents}
+use Rattle.ml_entries.specs.Entries.{contents}
 use Rattle.ml_run.proofs.run_and_print.write_blocks.Given as goal
 
 -- the blocks so far were appended

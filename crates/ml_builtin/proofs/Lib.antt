@@ -1,0 +1,17 @@
+pub mod UnifiedCells
+pub mod TypesShown
+pub mod GroundWalks
+pub mod OrderWalks
+pub mod OrderKinds
+pub mod ArgumentsPut
+pub mod Meanings
+pub mod CellsMade
+pub mod ListCells
+pub mod FaultChecks
+pub mod NumberTests
+pub mod FunctorChecks
+pub mod ArgChecks
+pub mod ListElements
+pub mod UnivChecks
+pub mod ValueResults
+pub mod PlainsFound

@@ -1,0 +1,4 @@
+mod Sessions
+mod SessionEntries
+mod EntryBlocks
+mod ItemsPlaced

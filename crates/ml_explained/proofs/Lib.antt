@@ -1,0 +1,6 @@
+pub mod Entered
+pub mod ExplainedLists
+pub mod KeptHistories
+pub mod UncommittedSessions
+pub mod ToldHistories
+pub mod RowsComputed

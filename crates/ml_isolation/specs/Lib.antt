@@ -1,0 +1,4 @@
+pub mod Places
+pub mod Logs
+pub mod Notes
+pub mod inside

@@ -1,0 +1,2 @@
+pub mod ListRows
+pub mod LogRows

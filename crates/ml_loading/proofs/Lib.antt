@@ -1,0 +1,6 @@
+mod Members
+mod Rising
+mod Sorting
+mod Looking
+mod Gathering
+mod ListsPut

@@ -1,8 +1,0 @@
-use Rattle.std.proofs.Common.{◌≡◌, ◌++◌, [], ◌∷◌, rules}
-use Rattle.ml_relation.proofs.ListsPut.{put_there}
-use Rattle.ml_relation.proofs.relations.put.Goals as goal
-
-pub returns : goal.returns
-returns c =
-    let behind : c.push.new.self.items ≡ c.index-lists-place.result.items ++ c.args.tuple ∷ [] = search rules in
-    put_there c.args.lists.now c.args.place c.index-lists-place.result c.push.new.self c.args.tuple c.requires c.index-lists-place.is behind

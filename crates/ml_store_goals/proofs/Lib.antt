@@ -1,0 +1,4 @@
+pub mod Parts
+pub mod ReservedPredicates
+pub mod PredicatesListed
+pub mod GoalsMade

@@ -1,0 +1,3 @@
+% The rows of catch/3 and throw/1.
+:- relation(p/1).
+loop :- loop.

@@ -1,0 +1,1 @@
+:- relation(d/2). d(department_a,1). d(department_b,2).

@@ -31,8 +31,10 @@ module _ (p : Program) (scripts : List Script) where
       let after = db_behind k db e in
       let same : (1 + k) + length order ≡ k + suc (length order) = omega arith in
       ap (λ h. (entry_at db e ∷ h.0, h.1)) (one_entry_more (1 + k) after order o)
-      ∙ ap (λ m. (entry_at db e ∷ (history_from p (1 + k) after scripts order).0 ++ entry_at (history_from p (1 + k) after scripts order).1 o ∷ [],
-        db_behind m (history_from p (1 + k) after scripts order).1 o)) same
+      ∙ ap (λ m. (
+        entry_at db e ∷ (history_from p (1 + k) after scripts order).0 ++ entry_at (history_from p (1 + k) after scripts order).1 o ∷ [],
+        db_behind m (history_from p (1 + k) after scripts order).1 o,
+      )) same
 
 -- so many numbers
 counted : (n k : ℕ) → length (numbers_from k n) ≡ n

@@ -32,7 +32,7 @@ module _ (program : Program) where
   -- one goal before others
   goal_leaves : (g : Goal) (gs : List Goal) (last : Last) (j : ℕ) (before : Db) (lists : Lists) (left bytes : ℕ)
       → Leaves (session_from program gs last (1 + j) before (goal_search program g lists left).lists (goal_search program g lists left).left
-        (answer_lines g (goal_search program g lists left).found bytes).bytes) before
+      (answer_lines g (goal_search program g lists left).found bytes).bytes) before
       → (raised : Option Tree) → error_of_goal (answer_lines g (goal_search program g lists left).found bytes) (goal_search program g lists left) ≡ raised
       → Leaves (session_from program (g ∷ gs) last j before lists left bytes) before
   goal_leaves g gs last j before lists left bytes rest (Some t) e h = rw e refl

@@ -17,10 +17,7 @@ fn clauses_are_called_in_their_order(rt: HostRuntime) -> Result<(), Fail> {
             b"?- b(X).",
             b"session 1 committed\ngoal 1\n  X = 1\n  1 answers\n",
         ),
-        (
-            b"?- c(X).",
-            b"session 1 committed\ngoal 1\n  0 answers\n",
-        ),
+        (b"?- c(X).", b"session 1 committed\ngoal 1\n  0 answers\n"),
         (
             b"?- a(X), !, fail.",
             b"session 1 committed\ngoal 1\n  0 answers\n",

@@ -54,19 +54,46 @@ fn a_budget_is_spent_by_calls_and_by_tuples(rt: HostRuntime) -> Result<(), Fail>
 fn goals_meet_tuples_as_terms(rt: HostRuntime) -> Result<(), Fail> {
     let alloc = rt.alloc();
     let table: [(&[u8], &[u8]); 14] = [
-        (b"?- p(X).", b"session 1 committed\ngoal 1\n  X = 7\n  X = it\n  2 answers\n"),
-        (b"?- p(_X).", b"session 1 committed\ngoal 1\n  true\n  true\n  2 answers\n"),
-        (b"?- p(it).", b"session 1 committed\ngoal 1\n  true\n  1 answers\n"),
-        (b"?- p(_).", b"session 1 committed\ngoal 1\n  true\n  true\n  2 answers\n"),
-        (b"?- q(X,X).", b"session 1 committed\ngoal 1\n  X = a\n  1 answers\n"),
-        (b"?- q(f(X,Y),Y).", b"session 1 committed\ngoal 1\n  X = a, Y = b\n  1 answers\n"),
-        (b"?- q(f(X,X),_).", b"session 1 committed\ngoal 1\n  0 answers\n"),
+        (
+            b"?- p(X).",
+            b"session 1 committed\ngoal 1\n  X = 7\n  X = it\n  2 answers\n",
+        ),
+        (
+            b"?- p(_X).",
+            b"session 1 committed\ngoal 1\n  true\n  true\n  2 answers\n",
+        ),
+        (
+            b"?- p(it).",
+            b"session 1 committed\ngoal 1\n  true\n  1 answers\n",
+        ),
+        (
+            b"?- p(_).",
+            b"session 1 committed\ngoal 1\n  true\n  true\n  2 answers\n",
+        ),
+        (
+            b"?- q(X,X).",
+            b"session 1 committed\ngoal 1\n  X = a\n  1 answers\n",
+        ),
+        (
+            b"?- q(f(X,Y),Y).",
+            b"session 1 committed\ngoal 1\n  X = a, Y = b\n  1 answers\n",
+        ),
+        (
+            b"?- q(f(X,X),_).",
+            b"session 1 committed\ngoal 1\n  0 answers\n",
+        ),
         (
             b"?- q([H|T],f(N)).",
             b"session 1 committed\ngoal 1\n  H = 1, T = [2], N = 3\n  1 answers\n",
         ),
-        (b"?- q(_Y,f(X)).", b"session 1 committed\ngoal 1\n  X = 3\n  1 answers\n"),
-        (b"?- q(b,X).", b"session 1 committed\ngoal 1\n  X = a\n  1 answers\n"),
+        (
+            b"?- q(_Y,f(X)).",
+            b"session 1 committed\ngoal 1\n  X = 3\n  1 answers\n",
+        ),
+        (
+            b"?- q(b,X).",
+            b"session 1 committed\ngoal 1\n  X = a\n  1 answers\n",
+        ),
         (
             b"?- r('A b',N,L).",
             b"session 1 committed\ngoal 1\n  N = -5, L = []\n  1 answers\n",
@@ -75,7 +102,10 @@ fn goals_meet_tuples_as_terms(rt: HostRuntime) -> Result<(), Fail> {
             b"?- r(X,_Y,g([X|Y],Z)).",
             b"session 1 committed\ngoal 1\n  X = x, Y = y, Z = {}\n  1 answers\n",
         ),
-        (b"?- r(X,X,Y).", b"session 1 committed\ngoal 1\n  0 answers\n"),
+        (
+            b"?- r(X,X,Y).",
+            b"session 1 committed\ngoal 1\n  0 answers\n",
+        ),
         (
             b"?- r(_,y,z). ?- p(8). ?- q(b,_).",
             b"session 1 committed\ngoal 1\n  true\n  1 answers\ngoal 2\n  0 answers\ngoal 3\n  true\n  1 answers\n",

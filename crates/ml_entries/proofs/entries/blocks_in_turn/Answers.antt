@@ -31,8 +31,7 @@ loop-i-preserved c =
 
 pub returns : goal.returns
 returns c =
-    let same : c.loop-i.i ≡ length c.args.scripts.now = search rules in
-    (
+    let same : c.loop-i.i ≡ length c.args.scripts.now = search rules in (
       lists_seen c.loop-i.items.items,
       subst
           (λ n. AreEntries (program_of c.args.program.now) (lists_seen c.args.first.items) (map script_seen c.args.scripts.now) n

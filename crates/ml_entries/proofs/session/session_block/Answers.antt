@@ -18,7 +18,12 @@ returns-in_err-session-clause-lists c =
     let L = c.lists_stay_lists.ensures in
     let ds = c.args.decls.now in
     let laws : HasLaws ds = record {
-      committed = L.committed ds; all_committed = L.all_committed; below = L.below ds; uncommitted = L.uncommitted; grows = L.grows } in
+      committed = L.committed ds;
+      all_committed = L.all_committed;
+      below = L.below ds;
+      uncommitted = L.uncommitted;
+      grows = L.grows;
+    } in
     lists_grow ds laws c.args.number (lists_seen c.args.items.now.items) c.requires.lists
 
 pub returns-in_err-block-clause-lists : goal.returns-in_err-block-clause-lists
@@ -26,7 +31,12 @@ returns-in_err-block-clause-lists c =
     let L = c.lists_stay_lists.ensures in
     let ds = c.args.decls.now in
     let laws : HasLaws ds = record {
-      committed = L.committed ds; all_committed = L.all_committed; below = L.below ds; uncommitted = L.uncommitted; grows = L.grows } in
+      committed = L.committed ds;
+      all_committed = L.all_committed;
+      below = L.below ds;
+      uncommitted = L.uncommitted;
+      grows = L.grows;
+    } in
     lists_grow ds laws c.args.number (lists_seen c.args.items.now.items) c.requires.lists
 
 pub returns-in_err-keep_committed-clause-lists : goal.returns-in_err-keep_committed-clause-lists
@@ -34,7 +44,12 @@ returns-in_err-keep_committed-clause-lists c =
     let L = c.lists_stay_lists.ensures in
     let ds = c.args.decls.now in
     let laws : HasLaws ds = record {
-      committed = L.committed ds; all_committed = L.all_committed; below = L.below ds; uncommitted = L.uncommitted; grows = L.grows } in
+      committed = L.committed ds;
+      all_committed = L.all_committed;
+      below = L.below ds;
+      uncommitted = L.uncommitted;
+      grows = L.grows;
+    } in
     subst (λ is. AreLists ds (suc c.args.number) (lists_seen is.items)) (sym c.in_err-keep_committed.ensures.same)
     (lists_grow ds laws c.args.number (lists_seen c.args.items.now.items) c.requires.lists)
 
@@ -43,7 +58,12 @@ returns-clause-lists c =
     let L = c.lists_stay_lists.ensures in
     let ds = c.args.decls.now in
     let laws : HasLaws ds = record {
-      committed = L.committed ds; all_committed = L.all_committed; below = L.below ds; uncommitted = L.uncommitted; grows = L.grows } in
+      committed = L.committed ds;
+      all_committed = L.all_committed;
+      below = L.below ds;
+      uncommitted = L.uncommitted;
+      grows = L.grows;
+    } in
     let k = c.args.number in
     let E = c.in_ok-session.ensures in
     let K = c.in_ok-keep_committed.ensures in
@@ -64,7 +84,12 @@ returns-clause-entry c =
     let L = c.lists_stay_lists.ensures in
     let ds = c.args.decls.now in
     let laws : HasLaws ds = record {
-      committed = L.committed ds; all_committed = L.all_committed; below = L.below ds; uncommitted = L.uncommitted; grows = L.grows } in
+      committed = L.committed ds;
+      all_committed = L.all_committed;
+      below = L.below ds;
+      uncommitted = L.uncommitted;
+      grows = L.grows;
+    } in
     let k = c.args.number in
     let E = c.in_ok-session.ensures in
     let K = c.in_ok-keep_committed.ensures in

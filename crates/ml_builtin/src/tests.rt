@@ -1,6 +1,7 @@
 //! Each kind of built-in once on its happy path, on cells.
-ghost use Rattle.std.specs.Prelude.{◌<◌, ◌≤◌, IfOk, OnOk};
+ghost use Rattle.std.specs.Prelude.{◌<◌, ◌≤◌, IfOk, IsTrue, OnOk};
 ghost use Rattle.ml_heap.specs.Changes.{cell_count};
+ghost use Rattle.ml_term.specs.Names.{is_name};
 
 use crate::{Binary, Outcome, Plain, Relation, Ternary, run_builtin};
 use ml_heap::{Heap, Ref};
@@ -26,6 +27,7 @@ fn number(heap: &mut Heap) -> Result<Ref, AllocError>
 
 // An atom.
 fn atom(heap: &mut Heap, name: &[u8]) -> Result<Ref, AllocError>
+    requires named { IsTrue (is_name name.now) }
     ensures inside { IfOk result (λ r. r < cell_count heap.new) }
     ensures more { OnOk result (cell_count heap.old ≤ cell_count heap.new) }
 {
@@ -35,6 +37,7 @@ fn atom(heap: &mut Heap, name: &[u8]) -> Result<Ref, AllocError>
 
 // A compound of two arguments.
 fn compound(heap: &mut Heap, name: &[u8], a: Ref, b: Ref) -> Result<Ref, AllocError>
+    requires named { IsTrue (is_name name.now) }
     requires a_inside { a < cell_count heap.old }
     requires b_inside { b < cell_count heap.old }
     ensures inside { IfOk result (λ r. r < cell_count heap.new) }

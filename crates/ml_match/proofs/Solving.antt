@@ -39,7 +39,7 @@ first_unsolved e left m u = solved_from (e ∷ left) m ∙ ap (compose_result m)
 pub solving_begins : (es : List Equation) (h : Changes) → IsSolving es h h es
 solving_begins es h = record { map_so_far = []; carried = carries_stay h; solved = refl }
 
-pub solving_on : (es : List Equation) (old h h' : Changes) (e : Equation) (left left' : List Equation) (n : Map) → IsSolving es old h (e ∷ left)
+abbrev pub solving_on : (es : List Equation) (old h h' : Changes) (e : Equation) (left left' : List Equation) (n : Map) → IsSolving es old h (e ∷ left)
     → unifier e.0 e.1 ≡ Some n → Carries h h' n → left' ≡ equations_under n left → IsSolving es old h' left'
 solving_on es old h h' e left left' n s u k l = record {
   map_so_far = compose s.map_so_far n;

@@ -1,5 +1,5 @@
 -- A head that is matched by its instructions: how that begins and what it ends in.
-use Rattle.std.proofs.Common.{◌≡◌, ℕ, zero, suc, ◌+◌, ◌<◌, ◌≤◌, ◌⊎◌, inl, inr, List, [], ◌∷◌, map, reverse, length, Option, Some, None, sym, ap, subst, ◌∙◌, arith}
+use Rattle.std.proofs.Common.{◌≡◌, ℕ, zero, suc, ◌+◌, ◌<◌, ◌≤◌, ◌⊎◌, inl, inr, List, [], ◌∷◌, ◌++◌, map, reverse, take, length, Option, Some, None, refl, sym, ap, subst, ◌∙◌, arith}
 use Rattle.std.specs.List.{zip}
 use Rattle.std.proofs.lemmas.List.{reverse-reverse, length-reverse, nil_from_length}
 use Rattle.ml_term.specs.Tree.{Tree, variables, list_of, width, substitute}
@@ -18,7 +18,7 @@ use Rattle.ml_compile.specs.Spells.{StandsAt, Matches, SpellsClause, IsBlock}
 use Rattle.ml_match.specs.Slots.{HasSlot, slot_tree}
 use Rattle.ml_match.specs.Entered.{head_equations, HasEntered}
 use Rattle.ml_match.specs.inside.Matching.{HasNewSlot}
-use Rattle.ml_match.specs.inside.Running.{IsBelow, AreBelow, IsRunning, RunsOn}
+use Rattle.ml_match.specs.inside.Running.{IsBelow, AreBelow, IsRunning, RunsOn, MayRun}
 use Rattle.ml_match.proofs.CellLists.{still}
 use Rattle.ml_match.proofs.HeadParts.{none_left}
 use Rattle.ml_match.proofs.Entering.{as_many_arguments, met_below, shifted, new_slot, new_tree}
@@ -26,6 +26,14 @@ use Rattle.ml_match.proofs.Entering.{as_many_arguments, met_below, shifted, new_
 up_to : (m w : ℕ) → ((k : ℕ) → k < m → k < w) → m ≤ w
 up_to zero w f = omega arith
 up_to (suc m) w f = let l = f m (omega arith) in omega arith
+
+-- slots that were written stand where they were
+front_of : (xs ys : List ℕ) → take (length xs) (xs ++ ys) ≡ xs
+front_of [] ys = refl
+front_of (x ∷ xs) ys = ap (λ zs. x ∷ zs) (front_of xs ys)
+
+pub all_written : (slots rest : List ℕ) (n : ℕ) → n ≡ length slots → take n (slots ++ rest) ≡ slots
+all_written slots rest n e = ap (λ k. take k (slots ++ rest)) e ∙ front_of slots rest
 
 module _ (code : List Instr) (c : Clause) (s : SpellsClause code c) (args : List ℕ) (many : arity_of c.head ≡ length args)
     (h : Changes) (slots : List ℕ) (env : ℕ) (at_env : env ≡ length slots) (wide : ℕ) (wide_is : (n : ℕ) → StandsAt code 0 (Enter n) → wide ≡ n) where
@@ -39,10 +47,12 @@ module _ (code : List Instr) (c : Clause) (s : SpellsClause code c) (args : List
   as_wide = wide_is w s.enters
 
   -- the variables are created, and the call's cells wait
-  module _ (h1 : Changes) (slots' todo : List ℕ) (inside : AreCells (cell_count h) args) (grown : Grows h h1) (todo_is : todo ≡ reverse args)
-      (made_so : (n : ℕ) → n < wide → HasNewSlot h1 slots' (length slots + n) (variable_count h + n)) where
+  module _ (h1 : Changes) (slots1 slots' todo : List ℕ) (see : slots' ≡ slots1) (inside : AreCells (cell_count h) args) (grown : Grows h h1)
+      (todo_is : todo ≡ reverse args) (made_so : (n : ℕ) → n < wide → HasNewSlot h1 slots1 (length slots + n) (variable_count h + n)) where
     made : (n : ℕ) → n < w → HasNewSlot h1 slots' (env + n) (variable_count h + n)
-    made n l = subst (λ (e : ℕ). HasNewSlot h1 slots' (e + n) (variable_count h + n)) (sym at_env) (made_so n (omega (arith, l, as_wide)))
+    made n l =
+        subst (λ (qs : List ℕ). HasNewSlot h1 qs (env + n) (variable_count h + n)) (sym see)
+        (subst (λ (e : ℕ). HasNewSlot h1 slots1 (e + n) (variable_count h + n)) (sym at_env) (made_so n (omega (arith, l, as_wide))))
 
     turned : reverse todo ≡ args
     turned = ap (λ (qs : List ℕ). reverse qs) todo_is ∙ reverse-reverse args
@@ -80,6 +90,9 @@ module _ (code : List Instr) (c : Clause) (s : SpellsClause code c) (args : List
       };
       stand = λ n k. new_tree h1 slots' env (variable_count h) n (made n k);
     }
+
+    pub may_begin : MayRun code env 1 h1 slots' todo
+    may_begin = record { equations = es; old = h; next = variable_count h; wide = w; q = s.body_at; running = running_begins }
 
   -- all instructions of the head have been run
   module _ (h1 h3 : Changes) (slots1 slots' : List ℕ) (counted1 : variable_count h1 ≡ variable_count h + wide)

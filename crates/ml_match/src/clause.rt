@@ -1,13 +1,8 @@
 //! Clauses entered.
-ghost use Rattle.std.specs.Prelude.{◌≡◌, IfOk, OnOk, Some, length, map, reverse};
-ghost use Rattle.std.specs.Option.{is_some};
-ghost use Rattle.std.specs.List.{zip};
+ghost use Rattle.std.specs.Prelude.{◌≡◌, IfOk, length, map};
 ghost use mathlib.Core.List.{IsPrefix};
-ghost use Rattle.ml_term.specs.Unify.{Map, mgu};
 ghost use Rattle.ml_search.specs.Program.{Clause, arity_of};
 ghost use Rattle.ml_heap.specs.Changes.{AreCells, KeepsMarks, cell_count, stands_for};
-ghost use Rattle.ml_heap.specs.Changes.{variable_count};
-ghost use Rattle.ml_heap.specs.Carries.{Carries};
 ghost use Rattle.ml_compile.specs.Spells.{SpellsClause};
 ghost use Rattle.ml_match.specs.Entered.{HasEntered};
 
@@ -43,5 +38,5 @@ pub fn enter(
     create_variables(heap, slots, width_of(code))?;
     todo.truncate(0);
     push_turned(args, todo)?;
-    match_head(heap, slots.as_mut_slice(), env, code, todo)
+    Ok(match_head(heap, slots.as_mut_slice(), env, code, todo)?)
 }

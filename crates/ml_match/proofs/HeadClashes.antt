@@ -12,7 +12,6 @@ use Rattle.ml_term.proofs.GroundTerms.{arguments_solved}
 use Rattle.ml_search.specs.Program.{Clause, arity_of}
 use Rattle.ml_search.specs.Bodies.{goal_term}
 use Rattle.ml_search.specs.Actions.{shift_variables}
-use Rattle.ml_heap.specs.Changes.{arguments_of}
 use Rattle.ml_compile.specs.declared.instr.Instr.{Instr}
 use Rattle.ml_compile.specs.declared.instr.Instr.TheVariants.{Enter, GetFirst, GetAgain, GetInt, GetAtom, GetCmp, PutVar, PutInt, PutAtom, PutCmp, Call, Proceed, True, Fail, Cut, Try, Choose}
 use Rattle.ml_compile.specs.Spells.{StandsAt, Matches, SpellsClause}
@@ -195,10 +194,3 @@ pub matched_by_arguments : (next : ℕ) (name : List ℕ) (ts us : List Tree) (h
     → unifier (goal_term name ts) (shift_variables next head) ≡ mgu (head_equations next ts head)
 matched_by_arguments next name ts us head e n =
     subst (λ (h : Tree). unifier (goal_term name ts) (shift_variables next h) ≡ mgu (head_equations next ts h)) (sym e) (by_goal next name ts us n)
-
--- a compound's arguments, from what is seen of it
-pub clash_of_compound : (t : Tree) (f : List ℕ) (n : ℕ) (x : Instr) → (t ≡ compound f (trees_of (arguments_of t))) × (length (arguments_of t) ≡ n)
-    → ((ts : Trees) → n ≡ length (list_of ts) → Clashes (compound f ts) x) → Clashes t x
-clash_of_compound t f n x e k =
-    subst (λ (u : Tree). Clashes u x) (sym e.0)
-    (k (trees_of (arguments_of t)) (sym e.1 ∙ ap length (sym (list_of_trees (arguments_of t)))))

@@ -46,7 +46,8 @@ module _ (c : ℕ) (a b : Tree) (n : Map) (u : unifier a b ≡ Some n) (p : IsBe
 
   -- and leaves all other variables
   pub others_stay : (v : ℕ) → c ≤ v → value_of n v ≡ variable v
-  others_stay v l = not_replaced n v (absent v (replaced_variables n) (λ i. let h = equations_below v ((is_most_general ((a, b) ∷ []) n u).of_them v i) in omega arith))
+  others_stay v l = not_replaced n v (absent v (replaced_variables n) (λ i.
+      let h = equations_below v ((is_most_general ((a, b) ∷ []) n u).of_them v i) in omega arith))
 
 -- a term without the variable stays
 pub stays_below : (v : ℕ) (t u : Tree) → IsBelow v u → apply (binding v t) u ≡ u
@@ -107,7 +108,8 @@ pub only : (k n : ℕ) → In k (n ∷ []) → n ≡ k
 only k n i = grind (arith, eqb_tells n k)
 
 -- the variables of the terms that are left
-pub matched_below : {code : List Instr} {p q met after : ℕ} {ts : List Tree} → Matches code p q met ts after → (k : ℕ) → In k (variables_of (trees_of ts)) → k < after
+pub matched_below : {code : List Instr} {p q met after : ℕ} {ts : List Tree} → Matches code p q met ts after → (k : ℕ) → In k (variables_of (trees_of ts))
+    → k < after
 matched_below nothing_matched k i = absurd (cc i)
 matched_below {met} (first_matched {ts = rest} s m) k i = elim (in_either k (met ∷ []) (variables_of (trees_of rest)) i) [
   | inl j ↦ let l = matches_rises m in let e = only k met j in omega arith

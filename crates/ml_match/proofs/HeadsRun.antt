@@ -93,7 +93,8 @@ module _ (code : List Instr) (es : List Equation) (old : Changes) (next wide env
   -- the variables of the rest have slots
   rest_within : (t : Tree) (rest : List Tree) → s.terms ≡ t ∷ rest → (k : ℕ) → In k (variables_of (trees_of rest)) → k < wide
   rest_within t rest is k i =
-      let l = matched_below s.matches k (subst (λ (ts : List Tree). In k (variables_of (trees_of ts))) (sym is) (in_right k (variables t) (variables_of (trees_of rest)) i)) in
+      let l = matched_below s.matches k (subst (λ (ts : List Tree). In k (variables_of (trees_of ts))) (sym is)
+          (in_right k (variables t) (variables_of (trees_of rest)) i)) in
       omega (arith, l, s.within)
 
   -- the first term was unified with what the cell stands for; cells may have been made for that
@@ -110,7 +111,8 @@ module _ (code : List Instr) (es : List Equation) (old : Changes) (next wide env
     slot_after : (j : ℕ) → j < wide → slot_tree h' slots env j ≡ apply n (value j)
     slot_after j l =
         let x = all_slots j l in
-        ap (stands_for h') (slot_is h slots (env + j) x 0) ∙ (k.trees x.cell x.inside ∙ ap (λ r. apply n (stands_for h r)) (sym (slot_is h slots (env + j) x 0)))
+        ap (stands_for h') (slot_is h slots (env + j) x 0)
+        ∙ (k.trees x.cell x.inside ∙ ap (λ r. apply n (stands_for h r)) (sym (slot_is h slots (env + j) x 0)))
 
     has_after : (j : ℕ) → j < wide → HasSlot h' slots (env + j)
     has_after j l = let x = all_slots j l in record { cell = x.cell; slot = x.slot; inside = omega (arith, x.inside, k.cells) }
@@ -122,13 +124,15 @@ module _ (code : List Instr) (es : List Equation) (old : Changes) (next wide env
     value_below j l = subst (IsBelow (next + met')) (sym (slot_after j (omega (arith, l, within_met)))) (elim (met_or_unmet j s.met) [
       | inl b ↦ below_after (value j) (s.met_slots j b).below_it
       | inr b ↦ below_applied (next + met') (stands_for h cell) (substitute value t) n u cell_below' below (value j)
-          (subst (IsBelow (next + met')) (sym (s.unmet_slots j b (omega (arith, l, within_met))).itself) (λ x i. let e = only x (next + j) i in omega (arith, e, l)))
+          (subst (IsBelow (next + met')) (sym (s.unmet_slots j b (omega (arith, l, within_met))).itself)
+          (λ x i. let e = only x (next + j) i in omega (arith, e, l)))
     ])
 
     same_left : zip (map (stands_for h') (reverse todo')) (map (substitute (slot_tree h' slots env)) rest)
         ≡ equations_under n (zip (map (stands_for h) (reverse todo')) (map (substitute value) rest))
     same_left =
-        ap (λ ts. zip ts (map (substitute (slot_tree h' slots env)) rest)) (cells_carried h h' n (next + s.met) (reverse todo') below_all.1 (λ r l b. k.trees r l))
+        ap (λ ts. zip ts (map (substitute (slot_tree h' slots env)) rest))
+        (cells_carried h h' n (next + s.met) (reverse todo') below_all.1 (λ r l b. k.trees r l))
         ∙ (ap (zip (map (apply n) (map (stands_for h) (reverse todo'))))
         (terms_carried n value (slot_tree h' slots env) rest (λ j i. slot_after j (rest_within t rest is j i)))
         ∙ sym (zip_under n (map (stands_for h) (reverse todo')) (map (substitute value) rest)))
@@ -303,7 +307,8 @@ module _ (code : List Instr) (es : List Equation) (old : Changes) (next wide env
     args_below : AreBelow h (next + s.met) args
     args_below = each args inside (λ k i. cell_below k (subst (λ (v : Tree). In k (variables v)) (sym shown) i))
       where
-        each : (qs : List ℕ) → AreCells (cell_count h) qs → ((k : ℕ) → In k (variables_of (trees_of (map (stands_for h) qs))) → k < next + s.met) → AreBelow h (next + s.met) qs
+        each : (qs : List ℕ) → AreCells (cell_count h) qs → ((k : ℕ) → In k (variables_of (trees_of (map (stands_for h) qs))) → k < next + s.met)
+            → AreBelow h (next + s.met) qs
         each [] a b = tt
         each (r ∷ qs) a b = (
           (a.0, λ k i. b k (in_left k (variables (stands_for h r)) (variables_of (trees_of (map (stands_for h) qs))) i)),
@@ -334,7 +339,8 @@ module _ (code : List Instr) (es : List Equation) (old : Changes) (next wide env
         let many' : arity (trees_of ts) ≡ arity (substitute_in value us) =
             omega (arith, arity_listed ts, length-map args (stands_for h), many, arity_kept value us) in
         let second : list_of (substitute_in value us) ≡ map (substitute value) (list_of us) =
-            ap list_of (ap (substitute_in value) (sym (trees_listed us)) ∙ substituted_trees value (list_of us)) ∙ listed (map (substitute value) (list_of us)) in
+            ap list_of (ap (substitute_in value) (sym (trees_listed us)) ∙ substituted_trees value (list_of us))
+            ∙ listed (map (substitute value) (list_of us)) in
         let pairs_are : zip (list_of (trees_of ts)) (list_of (substitute_in value us)) ≡ zip ts (map (substitute value) (list_of us)) =
             ap (λ x. zip x (list_of (substitute_in value us))) (listed ts) ∙ ap (zip ts) second in
         let long : length ts ≡ length (map (substitute value) (list_of us)) =

@@ -1,7 +1,7 @@
 //! A head matched by its instructions, one term after another. Cells wait for the terms that are
 //! left, the last cell for the first term. A variable that the head meets first takes the cell
-//! itself into its slot: nothing is bound or walked for it. In read mode the arguments of a compound
-//! wait next; in write mode the term is built, and unified with what the cell stands for.
+//! itself into its slot: nothing is bound or walked for it. In read mode the arguments of a
+//! compound wait next; in write mode the term is built, and unified with what the cell stands for.
 ghost use Rattle.std.specs.Prelude.{◌≡◌, ◌≤◌, ◌<◌, ◌++◌, ◌∷◌, [], ℕ, List, length, map, reverse};
 ghost use Rattle.std.specs.Prelude.{IfOk, IfSome, OnOk};
 ghost use mathlib.Core.List.{IsPrefix};

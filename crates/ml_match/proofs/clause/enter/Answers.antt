@@ -1,5 +1,5 @@
 -- The clause's variables are created, and its head is matched by its instructions.
-use Rattle.std.proofs.Common.{◌≡◌, ℕ, ◌≤◌, List, ◌++◌, map, reverse, drop, length, sym, ap, subst, ◌∙◌, arith}
+use Rattle.std.proofs.Common.{◌≡◌, ℕ, List, ◌++◌, map, reverse, drop, length, sym, ap, subst, ◌∙◌, arith}
 use mathlib.Core.List.{IsPrefix}
 use Rattle.ml_heap.specs.Changes.{stands_for}
 use Rattle.ml_heap.proofs.HeapMarks.{marks_go_on}

@@ -1,5 +1,5 @@
 -- One term more is matched.
-use Rattle.std.proofs.Common.{◌≡◌, ℕ, ◌+◌, ◌<◌, List, ◌∷◌, [], ◌++◌, length, Option, Some, None, IfSome, refl, subst, ◌∙◌, arith}
+use Rattle.std.proofs.Common.{ℕ, ◌<◌, List, Option, IfSome, subst, ◌∙◌, arith}
 use Rattle.ml_heap.proofs.HeapMarks.{marks_go_on}
 use Rattle.ml_match.specs.inside.Running.{IsRunning, RunsOn}
 use Rattle.ml_match.proofs.HeadsRun.{here_within}

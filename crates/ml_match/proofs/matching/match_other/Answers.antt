@@ -1,5 +1,5 @@
 -- The term at the place is met in each mode.
-use Rattle.std.proofs.Common.{rules, ◌≡◌, ℕ, ◌+◌, ◌<◌, ◌≤◌, List, length, refl, sym, subst, arith}
+use Rattle.std.proofs.Common.{rules, ℕ, ◌+◌, ◌<◌, ◌≤◌, List, length, refl, sym, subst, arith}
 use Rattle.ml_match.specs.inside.Running.{EndsAt, IsRunning}
 use Rattle.ml_match.proofs.CellLists.{reads}
 use Rattle.ml_match.proofs.HeadEnds.{ends_by}

@@ -1,5 +1,5 @@
 -- A variable that is met first takes the cell.
-use Rattle.std.proofs.Common.{rules, ◌≡◌, ℕ, ◌+◌, ◌<◌, length, refl, sym, ◌∙◌, arith}
+use Rattle.std.proofs.Common.{rules, ◌+◌, ◌<◌, length, refl, sym, ◌∙◌, arith}
 use Rattle.ml_match.proofs.CellLists.{reads}
 use Rattle.ml_match.proofs.HeadsRun.{here_within, first_within, running_sets}
 use Rattle.ml_match.proofs.NewVariables.{prefix_set}

@@ -1,12 +1,11 @@
 -- The term that was built is the one to be unified.
-use Rattle.std.proofs.Common.{rules, ◌≡◌, ℕ, ◌<◌, List, ◌∷◌, [], ◌++◌, Bool, true, false, length, sym, subst, ap, ◌∙◌, arith, refl}
+use Rattle.std.proofs.Common.{rules, ◌≡◌, ◌∷◌, [], true, false, sym, ◌∙◌, arith, refl}
 use Rattle.ml_heap.proofs.CarriedTrees.{carries_unified}
 use Rattle.ml_heap.proofs.HeapMarks.{marks_go_on}
 use Rattle.ml_match.proofs.CellLists.{cells_come}
 use Rattle.ml_match.proofs.HeadParts.{takes_some}
 use Rattle.ml_match.proofs.HeadsRun.{early, cell_inside, slots_below, built_inside, unified_fails, unified_goes}
 use Rattle.ml_match.proofs.Solving.{none_from, some_from}
-use Rattle.ml_match.specs.inside.Running.{IsRunning, FirstTerm, MayRun}
 use Rattle.ml_match.proofs.matching.unify_term.Goals as goal
 
 pub write_terms-requires : goal.write_terms-requires

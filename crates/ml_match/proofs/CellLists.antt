@@ -1,6 +1,6 @@
 -- Cells and what they stand for while a heap grows.
-use Rattle.std.proofs.Common.{◌≡◌, ℕ, ◌<◌, List, [], ◌∷◌, ◌++◌, map, length, get_or, refl, sym, ap, subst, ◌∙◌, arith, append_assoc, Some}
-use Rattle.std.proofs.lemmas.List.{map-append, append-nil}
+use Rattle.std.proofs.Common.{◌≡◌, ℕ, ◌<◌, List, [], ◌∷◌, ◌++◌, map, length, get_or, refl, sym, ap, subst, ◌∙◌, arith, append_assoc, length-append, Some}
+use Rattle.std.proofs.lemmas.List.{map-append, append-nil, length-map}
 use Rattle.std.proofs.lemmas.Option.{slice_get_within, get_or_from_slice_get, slice_get-get_or}
 use Rattle.ml_term.specs.Tree.{Tree}
 use Rattle.ml_heap.specs.Changes.{Changes, cell_count, stands_for, Grows, AreCells}
@@ -49,3 +49,8 @@ built_more h h' before cells cells' ts t r b g e l s = record {
   stand = map-append (stands_for h') b.made (r ∷ []) ∙ (ap (λ us. us ++ stands_for h' r ∷ []) (still h h' b.made g b.inside ∙ b.stand)
       ∙ ap (λ u. ts ++ u ∷ []) s);
 }
+
+-- a term that was built has a cell
+pub cells_come : (h : Changes) (before after : List ℕ) (t : Tree) → HasBuilt h before after (t ∷ []) → 0 < length after
+cells_come h before after t b =
+    omega (arith, ap length b.cells, length-append before b.made, ap length b.stand, length-map b.made (stands_for h))

@@ -12,7 +12,6 @@ use Rattle.ml_term.proofs.GroundTerms.{arguments_solved}
 use Rattle.ml_search.specs.Program.{Clause, arity_of}
 use Rattle.ml_search.specs.Bodies.{goal_term}
 use Rattle.ml_search.specs.Actions.{shift_variables}
-use Rattle.ml_heap.specs.Changes.{arguments_of}
 use Rattle.ml_compile.specs.declared.instr.Instr.{Instr}
 use Rattle.ml_compile.specs.declared.instr.Instr.TheVariants.{Enter, GetFirst, GetAgain, GetInt, GetAtom, GetCmp, PutVar, PutInt, PutAtom, PutCmp, Call, Proceed, True, Fail, Cut, Try, Choose}
 use Rattle.ml_compile.specs.Spells.{StandsAt, Matches, SpellsClause}
@@ -30,34 +29,32 @@ as_long no_trees = refl
 as_long (tree t ts) = omega (arith, as_long ts)
 
 -- what a term is that an instruction matches
-abbrev IsMatchedBy : Instr → Tree → Type 0
+abbrev pub IsMatchedBy : Instr → Tree → Type 0
 IsMatchedBy (GetInt z) u = u ≡ integer z
 IsMatchedBy (GetAtom f) u = u ≡ atom f
 IsMatchedBy (GetCmp f n s) u = (us : Trees) × ((u ≡ compound f us) × (arity us ≡ n))
 IsMatchedBy x u = Unit {0}
 
 -- terms that clash are made equal by no substitution
-clash_apart : (s : ℕ → Tree) (next : ℕ) (t u : Tree) (x : Instr) → Clashes t x → IsMatchedBy x u
-    → substitute s t ≡ substitute s (shift_variables next u) → ⊥
-clash_apart s next (integer y) u (GetInt z) c m e =
-    let k : integer y ≡ integer z = e ∙ ap (λ v. substitute s (shift_variables next v)) m in c (cc k)
-clash_apart s next (integer y) u (GetAtom f) c m e =
-    let k : integer y ≡ atom f = e ∙ ap (λ v. substitute s (shift_variables next v)) m in cc k
-clash_apart s next (integer y) u (GetCmp f n z) c m e =
-    let k : integer y ≡ substitute s (shift_variables next (compound f m.0)) = e ∙ ap (λ v. substitute s (shift_variables next v)) m.1.0 in cc k
-clash_apart s next (atom f) u (GetInt z) c m e =
-    let k : atom f ≡ integer z = e ∙ ap (λ v. substitute s (shift_variables next v)) m in cc k
-clash_apart s next (atom f) u (GetAtom g) c m e =
-    let k : atom f ≡ atom g = e ∙ ap (λ v. substitute s (shift_variables next v)) m in c (cc k)
-clash_apart s next (atom f) u (GetCmp g n z) c m e =
-    let k : atom f ≡ substitute s (shift_variables next (compound g m.0)) = e ∙ ap (λ v. substitute s (shift_variables next v)) m.1.0 in cc k
-clash_apart s next (compound f ts) u (GetInt z) c m e =
-    let k : substitute s (compound f ts) ≡ integer z = e ∙ ap (λ v. substitute s (shift_variables next v)) m in cc k
-clash_apart s next (compound f ts) u (GetAtom g) c m e =
-    let k : substitute s (compound f ts) ≡ atom g = e ∙ ap (λ v. substitute s (shift_variables next v)) m in cc k
-clash_apart s next (compound f ts) u (GetCmp g n z) c m e =
-    let r : ℕ → Tree = λ k. variable (next + k) in
-    let k : compound f (substitute_in s ts) ≡ compound g (substitute_in s (substitute_in r m.0)) = e ∙ ap (λ v. substitute s (shift_variables next v)) m.1.0 in
+clash_apart : (s r : ℕ → Tree) (t u : Tree) (x : Instr) → Clashes t x → IsMatchedBy x u → substitute s t ≡ substitute s (substitute r u) → ⊥
+clash_apart s r (integer y) u (GetInt z) c m e =
+    let k : integer y ≡ integer z = e ∙ ap (λ v. substitute s (substitute r v)) m in c (cc k)
+clash_apart s r (integer y) u (GetAtom f) c m e =
+    let k : integer y ≡ atom f = e ∙ ap (λ v. substitute s (substitute r v)) m in cc k
+clash_apart s r (integer y) u (GetCmp f n z) c m e =
+    let k : integer y ≡ substitute s (substitute r (compound f m.0)) = e ∙ ap (λ v. substitute s (substitute r v)) m.1.0 in cc k
+clash_apart s r (atom f) u (GetInt z) c m e =
+    let k : atom f ≡ integer z = e ∙ ap (λ v. substitute s (substitute r v)) m in cc k
+clash_apart s r (atom f) u (GetAtom g) c m e =
+    let k : atom f ≡ atom g = e ∙ ap (λ v. substitute s (substitute r v)) m in c (cc k)
+clash_apart s r (atom f) u (GetCmp g n z) c m e =
+    let k : atom f ≡ substitute s (substitute r (compound g m.0)) = e ∙ ap (λ v. substitute s (substitute r v)) m.1.0 in cc k
+clash_apart s r (compound f ts) u (GetInt z) c m e =
+    let k : substitute s (compound f ts) ≡ integer z = e ∙ ap (λ v. substitute s (substitute r v)) m in cc k
+clash_apart s r (compound f ts) u (GetAtom g) c m e =
+    let k : substitute s (compound f ts) ≡ atom g = e ∙ ap (λ v. substitute s (substitute r v)) m in cc k
+clash_apart s r (compound f ts) u (GetCmp g n z) c m e =
+    let k : compound f (substitute_in s ts) ≡ compound g (substitute_in s (substitute_in r m.0)) = e ∙ ap (λ v. substitute s (substitute r v)) m.1.0 in
     let many : arity (substitute_in s ts) ≡ arity (substitute_in s (substitute_in r m.0)) = ap arity (inside k) in
     elim c [
       | inl d ↦ d (cc k)
@@ -66,81 +63,87 @@ clash_apart s next (compound f ts) u (GetCmp g n z) c m e =
   where
     inside : {f g : List ℕ} {ts us : Trees} → compound f ts ≡ compound g us → ts ≡ us
     inside e = cc e
-clash_apart s next (variable k) u x c m e = absurd c
-clash_apart s next (integer y) u (Enter n) c m e = c
-clash_apart s next (integer y) u (GetFirst n) c m e = c
-clash_apart s next (integer y) u (GetAgain n) c m e = c
-clash_apart s next (integer y) u (PutVar n) c m e = c
-clash_apart s next (integer y) u (PutInt z) c m e = c
-clash_apart s next (integer y) u (PutAtom f) c m e = c
-clash_apart s next (integer y) u (PutCmp f n) c m e = c
-clash_apart s next (integer y) u (Call g) c m e = c
-clash_apart s next (integer y) u Proceed c m e = c
-clash_apart s next (integer y) u True c m e = c
-clash_apart s next (integer y) u Fail c m e = c
-clash_apart s next (integer y) u Cut c m e = c
-clash_apart s next (integer y) u (Try a b) c m e = c
-clash_apart s next (integer y) u (Choose a b d) c m e = c
-clash_apart s next (atom h) u (Enter n) c m e = c
-clash_apart s next (atom h) u (GetFirst n) c m e = c
-clash_apart s next (atom h) u (GetAgain n) c m e = c
-clash_apart s next (atom h) u (PutVar n) c m e = c
-clash_apart s next (atom h) u (PutInt z) c m e = c
-clash_apart s next (atom h) u (PutAtom f) c m e = c
-clash_apart s next (atom h) u (PutCmp f n) c m e = c
-clash_apart s next (atom h) u (Call g) c m e = c
-clash_apart s next (atom h) u Proceed c m e = c
-clash_apart s next (atom h) u True c m e = c
-clash_apart s next (atom h) u Fail c m e = c
-clash_apart s next (atom h) u Cut c m e = c
-clash_apart s next (atom h) u (Try a b) c m e = c
-clash_apart s next (atom h) u (Choose a b d) c m e = c
-clash_apart s next (compound h ts) u (Enter n) c m e = c
-clash_apart s next (compound h ts) u (GetFirst n) c m e = c
-clash_apart s next (compound h ts) u (GetAgain n) c m e = c
-clash_apart s next (compound h ts) u (PutVar n) c m e = c
-clash_apart s next (compound h ts) u (PutInt z) c m e = c
-clash_apart s next (compound h ts) u (PutAtom f) c m e = c
-clash_apart s next (compound h ts) u (PutCmp f n) c m e = c
-clash_apart s next (compound h ts) u (Call g) c m e = c
-clash_apart s next (compound h ts) u Proceed c m e = c
-clash_apart s next (compound h ts) u True c m e = c
-clash_apart s next (compound h ts) u Fail c m e = c
-clash_apart s next (compound h ts) u Cut c m e = c
-clash_apart s next (compound h ts) u (Try a b) c m e = c
-clash_apart s next (compound h ts) u (Choose a b d) c m e = c
+clash_apart s r (variable k) u x c m e = absurd c
+clash_apart s r (integer y) u (Enter n) c m e = c
+clash_apart s r (integer y) u (GetFirst n) c m e = c
+clash_apart s r (integer y) u (GetAgain n) c m e = c
+clash_apart s r (integer y) u (PutVar n) c m e = c
+clash_apart s r (integer y) u (PutInt z) c m e = c
+clash_apart s r (integer y) u (PutAtom f) c m e = c
+clash_apart s r (integer y) u (PutCmp f n) c m e = c
+clash_apart s r (integer y) u (Call g) c m e = c
+clash_apart s r (integer y) u Proceed c m e = c
+clash_apart s r (integer y) u True c m e = c
+clash_apart s r (integer y) u Fail c m e = c
+clash_apart s r (integer y) u Cut c m e = c
+clash_apart s r (integer y) u (Try a b) c m e = c
+clash_apart s r (integer y) u (Choose a b d) c m e = c
+clash_apart s r (atom h) u (Enter n) c m e = c
+clash_apart s r (atom h) u (GetFirst n) c m e = c
+clash_apart s r (atom h) u (GetAgain n) c m e = c
+clash_apart s r (atom h) u (PutVar n) c m e = c
+clash_apart s r (atom h) u (PutInt z) c m e = c
+clash_apart s r (atom h) u (PutAtom f) c m e = c
+clash_apart s r (atom h) u (PutCmp f n) c m e = c
+clash_apart s r (atom h) u (Call g) c m e = c
+clash_apart s r (atom h) u Proceed c m e = c
+clash_apart s r (atom h) u True c m e = c
+clash_apart s r (atom h) u Fail c m e = c
+clash_apart s r (atom h) u Cut c m e = c
+clash_apart s r (atom h) u (Try a b) c m e = c
+clash_apart s r (atom h) u (Choose a b d) c m e = c
+clash_apart s r (compound h ts) u (Enter n) c m e = c
+clash_apart s r (compound h ts) u (GetFirst n) c m e = c
+clash_apart s r (compound h ts) u (GetAgain n) c m e = c
+clash_apart s r (compound h ts) u (PutVar n) c m e = c
+clash_apart s r (compound h ts) u (PutInt z) c m e = c
+clash_apart s r (compound h ts) u (PutAtom f) c m e = c
+clash_apart s r (compound h ts) u (PutCmp f n) c m e = c
+clash_apart s r (compound h ts) u (Call g) c m e = c
+clash_apart s r (compound h ts) u Proceed c m e = c
+clash_apart s r (compound h ts) u True c m e = c
+clash_apart s r (compound h ts) u Fail c m e = c
+clash_apart s r (compound h ts) u Cut c m e = c
+clash_apart s r (compound h ts) u (Try a b) c m e = c
+clash_apart s r (compound h ts) u (Choose a b d) c m e = c
 
--- the first argument of a head is what the first instruction matches
-first_matched_by : (code : List Instr) (x : Instr) (q met : ℕ) (u : Tree) (us : List Tree) → StandsAt code 1 x → Matches code 1 q 0 (u ∷ us) met →
-    IsMatchedBy x u
-first_matched_by code (GetInt z) q met u us s m = first (next_integer z s (takes_some m) m).is
+-- the first of some terms is what the first instruction matches
+pub first_matched_by : {code : List Instr} {p q met after : ℕ} {u : Tree} {us : List Tree} (x : Instr) → StandsAt code p x
+    → Matches code p q met (u ∷ us) after → IsMatchedBy x u
+first_matched_by {u} {us} (GetInt z) s m = first (next_integer z s (takes_some m) m).is
   where
     first : {t : Tree} {ts : List Tree} → u ∷ us ≡ t ∷ ts → u ≡ t
     first e = cc e
-first_matched_by code (GetAtom f) q met u us s m = first (next_atom f s (takes_some m) m).is
+first_matched_by {u} {us} (GetAtom f) s m = first (next_atom f s (takes_some m) m).is
   where
     first : {t : Tree} {ts : List Tree} → u ∷ us ≡ t ∷ ts → u ≡ t
     first e = cc e
-first_matched_by code (GetCmp f n z) q met u us s m =
+first_matched_by {u} {us} (GetCmp f n z) s m =
     let k = next_compound f n z s (takes_some m) m in
     (k.args, (first k.is, k.many))
   where
     first : {t : Tree} {ts : List Tree} → u ∷ us ≡ t ∷ ts → u ≡ t
     first e = cc e
-first_matched_by code (Enter n) q met u us s m = tt
-first_matched_by code (GetFirst n) q met u us s m = tt
-first_matched_by code (GetAgain n) q met u us s m = tt
-first_matched_by code (PutVar n) q met u us s m = tt
-first_matched_by code (PutInt z) q met u us s m = tt
-first_matched_by code (PutAtom f) q met u us s m = tt
-first_matched_by code (PutCmp f n) q met u us s m = tt
-first_matched_by code (Call g) q met u us s m = tt
-first_matched_by code Proceed q met u us s m = tt
-first_matched_by code True q met u us s m = tt
-first_matched_by code Fail q met u us s m = tt
-first_matched_by code Cut q met u us s m = tt
-first_matched_by code (Try a b) q met u us s m = tt
-first_matched_by code (Choose a b d) q met u us s m = tt
+first_matched_by (Enter n) s m = tt
+first_matched_by (GetFirst n) s m = tt
+first_matched_by (GetAgain n) s m = tt
+first_matched_by (PutVar n) s m = tt
+first_matched_by (PutInt z) s m = tt
+first_matched_by (PutAtom f) s m = tt
+first_matched_by (PutCmp f n) s m = tt
+first_matched_by (Call g) s m = tt
+first_matched_by Proceed s m = tt
+first_matched_by True s m = tt
+first_matched_by Fail s m = tt
+first_matched_by Cut s m = tt
+first_matched_by (Try a b) s m = tt
+first_matched_by (Choose a b d) s m = tt
+
+-- a term has no unifier with a head's term that it clashes with
+pub clash_fails : {code : List Instr} {p q met after : ℕ} {us : List Tree} (r : ℕ → Tree) (t u : Tree) (x : Instr) → StandsAt code p x
+    → Matches code p q met (u ∷ us) after → Clashes t x → unifier t (substitute r u) ≡ None
+clash_fails r t u x s m c =
+    none_unless _ (λ i. let v = (terms_unified_exactly t (substitute r u)).0 i in clash_apart v.0 r t u x c (first_matched_by x s m) v.1)
 
 -- compounds are equal only where their first arguments are
 pub no_unifier : (code : List Instr) (c : Clause) (x : Instr) (t : Tree) (next : ℕ) (name : List ℕ) (ts : List Tree) → SpellsClause code c
@@ -156,7 +159,7 @@ no_unifier code c x t next name ts s a k n =
     by_head (atom f) h e r q = omega (arith, e)
     by_head (compound f no_trees) h e r q = omega (arith, e)
     by_head (compound f (tree u us)) h e r q =
-        clash_apart r next t u x k (first_matched_by code x s.body_at s.met u (list_of us) a h) (first q)
+        clash_apart r (λ k. variable (next + k)) t u x k (first_matched_by x a h) (first q)
       where
         first : {f g : List ℕ} {v w : Tree} {vs ws : Trees} → compound f (tree v vs) ≡ compound g (tree w ws) → v ≡ w
         first e = cc e
@@ -191,10 +194,3 @@ pub matched_by_arguments : (next : ℕ) (name : List ℕ) (ts us : List Tree) (h
     → unifier (goal_term name ts) (shift_variables next head) ≡ mgu (head_equations next ts head)
 matched_by_arguments next name ts us head e n =
     subst (λ (h : Tree). unifier (goal_term name ts) (shift_variables next h) ≡ mgu (head_equations next ts h)) (sym e) (by_goal next name ts us n)
-
--- a compound's arguments, from what is seen of it
-pub clash_of_compound : (t : Tree) (f : List ℕ) (n : ℕ) (x : Instr) → (t ≡ compound f (trees_of (arguments_of t))) × (length (arguments_of t) ≡ n)
-    → ((ts : Trees) → n ≡ length (list_of ts) → Clashes (compound f ts) x) → Clashes t x
-clash_of_compound t f n x e k =
-    subst (λ (u : Tree). Clashes u x) (sym e.0)
-    (k (trees_of (arguments_of t)) (sym e.1 ∙ ap length (sym (list_of_trees (arguments_of t)))))

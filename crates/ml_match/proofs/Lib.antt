@@ -6,3 +6,7 @@ pub mod NewVariables
 pub mod Solving
 pub mod Entering
 pub mod HeadClashes
+pub mod HeadVariables
+pub mod HeadEnds
+pub mod HeadsRun
+pub mod HeadsBegun

@@ -1,5 +1,5 @@
 -- Slots of variables that were made and stand alone.
-use Rattle.std.proofs.Common.{◌≡◌, ℕ, zero, suc, ◌<◌, false, List, [], ◌∷◌, ◌++◌, inl, inr, length, refl, sym, ap, ◌∙◌, arith, append_assoc, Some}
+use Rattle.std.proofs.Common.{◌≡◌, ℕ, zero, suc, ◌<◌, ◌≤◌, false, List, [], ◌∷◌, ◌++◌, inl, inr, length, set, refl, sym, ap, ◌∙◌, arith, append_assoc, Some}
 use Rattle.std.specs.List.{slice_get}
 use Rattle.std.proofs.lemmas.Bool.Decides.{eqb_tells}
 use mathlib.Core.List.{IsPrefix}
@@ -19,6 +19,16 @@ get_last (y ∷ xs) x = get_last xs x
 
 pub prefix_more : (xs ys zs : List ℕ) (z : ℕ) → IsPrefix xs ys → zs ≡ ys ++ z ∷ [] → IsPrefix xs zs
 prefix_more xs ys zs z p e = (p.0 ++ z ∷ [], sym (append_assoc xs p.0 (z ∷ [])) ∙ (ap (λ w. w ++ z ∷ []) p.1 ∙ sym e))
+-- what stands before a place stays where the place is set
+set_behind : (before rest : List ℕ) (i x : ℕ) → length before ≤ i → (rest' : List ℕ) × (before ++ rest' ≡ set (before ++ rest) i x)
+set_behind [] rest i x l = (set rest i x, refl)
+set_behind (y ∷ before) rest zero x l = absurd (omega arith)
+set_behind (y ∷ before) rest (suc i) x l = let r = set_behind before rest i x (omega (arith, l)) in (r.0, ap (λ qs. y ∷ qs) r.1)
+
+pub prefix_set : (before slots slots' : List ℕ) (i x : ℕ) → length before ≤ i → slots' ≡ set slots i x → IsPrefix before slots → IsPrefix before slots'
+prefix_set before slots slots' i x l e p =
+    let r = set_behind before p.0 i x l in
+    (r.0, r.1 ∙ (ap (λ qs. set qs i x) p.1 ∙ sym e))
 
 module _ (h h' : Changes) (slots slots' : List ℕ) (r place number : ℕ) (m : HasOneMore h h' r (variable (variable_count h))) (e : slots'
     ≡ slots ++ r ∷ []) where

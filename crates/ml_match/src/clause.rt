@@ -1,17 +1,12 @@
 //! Clauses entered.
-ghost use Rattle.std.specs.Prelude.{◌≡◌, IfOk, OnOk, Some, length, map, reverse};
-ghost use Rattle.std.specs.Option.{is_some};
-ghost use Rattle.std.specs.List.{zip};
+ghost use Rattle.std.specs.Prelude.{◌≡◌, IfOk, length, map};
 ghost use mathlib.Core.List.{IsPrefix};
-ghost use Rattle.ml_term.specs.Unify.{Map, mgu};
 ghost use Rattle.ml_search.specs.Program.{Clause, arity_of};
 ghost use Rattle.ml_heap.specs.Changes.{AreCells, KeepsMarks, cell_count, stands_for};
-ghost use Rattle.ml_heap.specs.Changes.{variable_count};
-ghost use Rattle.ml_heap.specs.Carries.{Carries};
 ghost use Rattle.ml_compile.specs.Spells.{SpellsClause};
 ghost use Rattle.ml_match.specs.Entered.{HasEntered};
 
-use crate::head::{end_of_terms, write_terms};
+use crate::matching::{match_head, push_turned};
 use crate::variables::{create_variables, width_of};
 use ml_compile::Instr;
 use ml_heap::{Heap, Ref};
@@ -41,36 +36,7 @@ pub fn enter(
 {
     let env = slots.len();
     create_variables(heap, slots, width_of(code))?;
-    let body = end_of_terms(code, 1, args.len());
     todo.truncate(0);
-    write_terms(heap, slots, env, code, 1, body, todo)?;
-    if unify_all(heap, args, todo)? {
-        Ok(Some(body))
-    } else {
-        Ok(None)
-    }
-}
-
-// Unifies the terms of some cells with those of others, which stand in the other order.
-fn unify_all(heap: &mut Heap, args: &[Ref], others: &mut Vec<Ref>) -> Result<bool, AllocError>
-    requires many { length others.old.items ≡ length args.now }
-    requires args_inside { AreCells (cell_count heap.old) args.now }
-    requires others_inside { AreCells (cell_count heap.old) others.old.items }
-    ensures found { IfOk result (λ ok. ok ≡ is_some (mgu (zip (map (stands_for heap.old) args.now)
-        (map (stands_for heap.old) (reverse others.old.items))))) }
-    ensures carried { (m : Map) → mgu (zip (map (stands_for heap.old) args.now)
-        (map (stands_for heap.old) (reverse others.old.items))) ≡ Some m →
-        OnOk result (Carries heap.old heap.new m) }
-    ensures counted { variable_count heap.new ≡ variable_count heap.old }
-    ensures marks { KeepsMarks heap.old heap.new }
-{
-    for arg in args {
-        let Some(other) = others.pop() else {
-            unreachable!()
-        };
-        if !heap.unify(*arg, other)? {
-            return Ok(false);
-        }
-    }
-    Ok(true)
+    push_turned(args, todo)?;
+    Ok(match_head(heap, slots.as_mut_slice(), env, code, todo)?)
 }

@@ -7,25 +7,12 @@ ghost use Rattle.ml_compile.specs.Spells.{Matches};
 ghost use Rattle.ml_match.specs.Slots.{slot_tree};
 ghost use Rattle.ml_match.specs.Built.{HasBuilt};
 ghost use Rattle.ml_match.specs.inside.Matching.{HaveSlotsBelow, IsWriting, MayWrite};
+ghost use Rattle.ml_match.specs.inside.Modes.{arity_by, size_by};
 
 use crate::cells::{join_last, new_integer};
 use ml_compile::Instr;
 use ml_heap::{Heap, Ref};
 use std::alloc::AllocError;
-
-// The place behind the instructions of so many terms.
-pub(crate) fn end_of_terms(code: &[Instr], place: usize, count: usize) -> usize
-    requires { (q met after : ℕ) × ((ts : List Tree) × (Matches code.now place q met ts after
-        × (length ts ≡ count))) }
-    ensures { (q met after : ℕ) (ts : List Tree) → Matches code.now place q met ts after →
-        length ts ≡ count → result ≡ q }
-{
-    let mut end = place;
-    for _ in 0..count {
-        end += size_at(code, end);
-    }
-    end
-}
 
 // Builds the terms whose instructions stand between two places, the first one last.
 pub(crate) fn write_terms(
@@ -109,16 +96,22 @@ fn reverse_last(cells: &mut Vec<Ref>, count: u8)
     cells[first..].reverse();
 }
 
-// How many instructions the term at a place takes.
-fn size_at(code: &[Instr], place: usize) -> usize
-    requires { (q met after : ℕ) × ((t : Tree) × ((ts : List Tree) ×
-        Matches code.now place q met (t ∷ ts) after)) }
-    ensures { (q met after : ℕ) (t : Tree) (ts : List Tree) →
-        Matches code.now place q met (t ∷ ts) after →
-        (between : ℕ) × Matches code.now (place + result) q between ts after }
+// How many instructions a term takes, by its first one.
+pub(crate) fn size_of(instr: &Instr) -> usize
+    ensures { result ≡ size_by instr.now }
 {
-    match &code[place] {
+    match instr {
         Instr::GetCmp(_, _, size) => *size,
         _ => 1,
+    }
+}
+
+// How many arguments a term has, by its first instruction.
+pub(crate) fn arity_of(instr: &Instr) -> u8
+    ensures { result ≡ arity_by instr.now }
+{
+    match instr {
+        Instr::GetCmp(_, arity, _) => *arity,
+        _ => 0,
     }
 }

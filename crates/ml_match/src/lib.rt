@@ -11,6 +11,8 @@ mod first;
 mod goal;
 mod head;
 mod laws;
+mod matching;
+mod mode;
 mod variables;
 
 pub use clause::enter;

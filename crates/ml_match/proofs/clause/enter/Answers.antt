@@ -1,116 +1,64 @@
--- What the calls ensure, put together.
-use Rattle.std.proofs.Common.{refl, rules, ◌≡◌, length, true, false, arith}
+-- The clause's variables are created, and its head is matched by its instructions.
+use Rattle.std.proofs.Common.{◌≡◌, ℕ, List, ◌++◌, map, reverse, drop, length, sym, ap, subst, ◌∙◌, arith}
+use mathlib.Core.List.{IsPrefix}
+use Rattle.ml_heap.specs.Changes.{stands_for}
 use Rattle.ml_heap.proofs.HeapMarks.{marks_go_on}
-use Rattle.ml_match.proofs.Entering.{head_here, enters_here, as_many_args, matches_here, slots_below, others_many, others_inside, given_inside, when_none, when_some}
+use Rattle.ml_match.specs.Entered.{HasEntered}
+use Rattle.ml_match.proofs.HeadsBegun.{all_written, may_begin, running_begins, running_ends}
 use Rattle.ml_match.proofs.clause.enter.Goals as goal
 
-pub width_of-requires : goal.width_of-requires
-width_of-requires c =
-    let r = c.requires.spelled in
-    (_, enters_here c.args.code.now c.args.code.now refl r.0 r.1.0 c.args.args.now r.1.1)
-
-pub end_of_terms-body-requires : goal.end_of_terms-body-requires
-end_of_terms-body-requires c =
-    let r = c.requires.spelled in (
-      _,
-      _,
-      _,
-      (
-        _,
-        (
-          head_here c.args.code.now c.args.code.now refl r.0 r.1.0 c.args.args.now r.1.1,
-          as_many_args c.args.code.now c.args.code.now refl r.0 r.1.0 c.args.args.now r.1.1,
-        ),
-      ),
-    )
-
-pub write_terms-requires : goal.write_terms-requires
-write_terms-requires c =
-    let r = c.requires.spelled in
-    let at : c.len-env.result ≡ length c.args.slots.now.items = omega (arith, c.len-env.ensures) in (
-      _,
-      _,
-      (
-        _,
-        (
-          matches_here c.args.code.now c.args.code.now refl r.0 r.1.0 c.args.args.now r.1.1
-              c.args.heap.now c.create_variables.new.heap c.args.slots.now.items c.create_variables.new.slots.items c.deref.result.now c.len-env.result
-              c.width_of.result c.end_of_terms-body.result c.deref.ensures.value at c.width_of.ensures c.in_ok-create_variables.ensures.made
-              c.end_of_terms-body.ensures,
-          slots_below c.args.code.now c.args.code.now refl r.0 r.1.0 c.args.args.now r.1.1
-              c.args.heap.now c.create_variables.new.heap c.args.slots.now.items c.create_variables.new.slots.items c.deref.result.now c.len-env.result
-              c.width_of.result c.end_of_terms-body.result c.deref.ensures.value at c.width_of.ensures c.in_ok-create_variables.ensures.made
-              c.end_of_terms-body.ensures,
-        ),
-      ),
-    )
-
-pub unify_all-requires : goal.unify_all-requires
-unify_all-requires c =
+pub match_head-requires : goal.match_head-requires
+match_head-requires c =
     let r = c.requires.spelled in
     let at : c.len-env.result ≡ length c.args.slots.now.items = omega (arith, c.len-env.ensures) in
     let v = c.in_ok-create_variables.ensures in
-    let t = c.in_ok-write_terms.ensures in
-    record {
-      many = others_many c.args.code.now c.args.code.now refl r.0 r.1.0 c.args.args.now r.1.1
-          c.args.heap.now c.create_variables.new.heap c.args.slots.now.items c.create_variables.new.slots.items c.deref.result.now c.len-env.result
-          c.width_of.result c.end_of_terms-body.result c.deref.ensures.value at c.width_of.ensures v.made c.end_of_terms-body.ensures
-          c.write_terms.new.heap c.truncate.new.self.items c.write_terms.new.cells.items c.truncate.ensures.items c.requires.inside v.many v.counted t.counted
-          v.grown t.grown t.built;
-      args_inside = given_inside c.args.code.now c.args.code.now refl r.0 r.1.0 c.args.args.now r.1.1
-          c.args.heap.now c.create_variables.new.heap c.args.slots.now.items c.create_variables.new.slots.items c.deref.result.now c.len-env.result
-          c.width_of.result c.end_of_terms-body.result c.deref.ensures.value at c.width_of.ensures v.made c.end_of_terms-body.ensures
-          c.write_terms.new.heap c.truncate.new.self.items c.write_terms.new.cells.items c.truncate.ensures.items c.requires.inside v.many v.counted t.counted
-          v.grown t.grown t.built;
-      others_inside = others_inside c.args.code.now c.args.code.now refl r.0 r.1.0 c.args.args.now r.1.1
-          c.args.heap.now c.create_variables.new.heap c.args.slots.now.items c.create_variables.new.slots.items c.deref.result.now c.len-env.result
-          c.width_of.result c.end_of_terms-body.result c.deref.ensures.value at c.width_of.ensures v.made c.end_of_terms-body.ensures
-          c.write_terms.new.heap c.truncate.new.self.items c.write_terms.new.cells.items c.truncate.ensures.items c.requires.inside v.many v.counted t.counted
-          v.grown t.grown t.built;
-    }
+    may_begin c.args.code.now r.0 r.1.0 c.args.args.now r.1.1 c.args.heap.now c.args.slots.now.items c.len-env.result at
+    c.width_of.result c.width_of.ensures c.create_variables.new.heap c.create_variables.new.slots.items c.as_mut_slice.result.now
+    c.push_turned.new.todo.items c.as_mut_slice.ensures.value c.requires.inside v.grown
+    (c.in_ok-push_turned.ensures ∙ ap (λ (qs : List ℕ). qs ++ reverse c.args.args.now) c.truncate.ensures.items) v.made
 
-pub returns-in_err-unify_all-clause-marks : goal.returns-in_err-unify_all-clause-marks
-returns-in_err-unify_all-clause-marks c =
-    marks_go_on c.args.heap.now c.create_variables.new.heap c.unify_all.new.heap c.in_ok-create_variables.ensures.grown.marks
-    (marks_go_on c.create_variables.new.heap c.write_terms.new.heap c.unify_all.new.heap c.in_ok-write_terms.ensures.grown.marks
-    c.in_err-unify_all.ensures.marks)
+pub returns-in_err-match_head-clause-front : goal.returns-in_err-match_head-clause-front
+returns-in_err-match_head-clause-front c =
+    let new = c.match_head.new.slots in
+    let written = all_written new (drop (length new) c.create_variables.new.slots.items) c.create_variables.new.slots.len
+        (sym (c.match_head.auto.slots ∙ c.as_mut_slice.ensures.len)) in
+    let begins = subst (λ (qs : List ℕ). IsPrefix c.args.slots.now.items qs) (sym c.as_mut_slice.ensures.value) c.in_ok-create_variables.ensures.front in
+    subst (λ (qs : List ℕ). IsPrefix c.args.slots.now.items qs) (sym written)
+    (c.in_err-match_head.ensures.front c.args.slots.now.items (omega (arith, c.len-env.ensures)) begins)
 
-pub returns-then-branch-clause-marks : goal.returns-then-branch-clause-marks
-returns-then-branch-clause-marks c =
-    marks_go_on c.args.heap.now c.create_variables.new.heap c.unify_all.new.heap c.in_ok-create_variables.ensures.grown.marks
-    (marks_go_on c.create_variables.new.heap c.write_terms.new.heap c.unify_all.new.heap c.in_ok-write_terms.ensures.grown.marks
-    c.in_ok-unify_all.ensures.marks)
+pub returns-in_err-match_head-clause-marks : goal.returns-in_err-match_head-clause-marks
+returns-in_err-match_head-clause-marks c =
+    marks_go_on c.args.heap.now c.create_variables.new.heap c.match_head.new.heap c.in_ok-create_variables.ensures.grown.marks
+    c.in_err-match_head.ensures.marks
 
-pub returns-else-branch-clause-marks : goal.returns-else-branch-clause-marks
-returns-else-branch-clause-marks c =
-    marks_go_on c.args.heap.now c.create_variables.new.heap c.unify_all.new.heap c.in_ok-create_variables.ensures.grown.marks
-    (marks_go_on c.create_variables.new.heap c.write_terms.new.heap c.unify_all.new.heap c.in_ok-write_terms.ensures.grown.marks
-    c.in_ok-unify_all.ensures.marks)
-
-pub returns-then-branch-clause-entered : goal.returns-then-branch-clause-entered
-returns-then-branch-clause-entered c k s many =
+pub returns-clause-entered : goal.returns-clause-entered
+returns-clause-entered c k s many =
     let at : c.len-env.result ≡ length c.args.slots.now.items = omega (arith, c.len-env.ensures) in
     let v = c.in_ok-create_variables.ensures in
-    let t = c.in_ok-write_terms.ensures in
-    let u = c.in_ok-unify_all.ensures in
-    let ok : c.in_ok-unify_all.field-0 ≡ true = search rules in
-    when_some c.args.code.now c.args.code.now refl k s c.args.args.now many
-    c.args.heap.now c.create_variables.new.heap c.args.slots.now.items c.create_variables.new.slots.items c.deref.result.now c.len-env.result
-    c.width_of.result c.end_of_terms-body.result c.deref.ensures.value at c.width_of.ensures v.made c.end_of_terms-body.ensures
-    c.write_terms.new.heap c.truncate.new.self.items c.write_terms.new.cells.items c.truncate.ensures.items c.requires.inside v.many v.counted t.counted
-    v.grown t.grown t.built
-    c.unify_all.new.heap u.counted c.in_ok-unify_all.field-0 u.found u.carried ok
+    let m = c.in_ok-match_head.ensures in
+    let new = c.match_head.new.slots in
+    let written = all_written new (drop (length new) c.create_variables.new.slots.items) c.create_variables.new.slots.len
+        (sym (c.match_head.auto.slots ∙ c.as_mut_slice.ensures.len)) in
+    let begun = running_begins c.args.code.now k s c.args.args.now many c.args.heap.now c.args.slots.now.items c.len-env.result at
+        c.width_of.result c.width_of.ensures c.create_variables.new.heap c.create_variables.new.slots.items c.as_mut_slice.result.now
+        c.push_turned.new.todo.items c.as_mut_slice.ensures.value c.requires.inside v.grown
+        (c.in_ok-push_turned.ensures ∙ ap (λ (qs : List ℕ). qs ++ reverse c.args.args.now) c.truncate.ensures.items) v.made in
+    subst (λ (qs : List ℕ). HasEntered c.args.code.now c.args.heap.now c.match_head.new.heap c.args.slots.now.items qs k
+        (map (stands_for c.args.heap.now) c.args.args.now) c.in_ok-match_head.field-0) (sym written)
+    (running_ends c.args.code.now k s c.args.args.now many c.args.heap.now c.args.slots.now.items c.len-env.result at
+    c.width_of.result c.width_of.ensures c.create_variables.new.heap c.match_head.new.heap c.as_mut_slice.result.now new v.counted m.counted
+    (ap length c.as_mut_slice.ensures.value ∙ v.many) m.many c.in_ok-match_head.field-0 (m.goes_on _ _ _ _ _ begun))
 
-pub returns-else-branch-clause-entered : goal.returns-else-branch-clause-entered
-returns-else-branch-clause-entered c k s many =
-    let at : c.len-env.result ≡ length c.args.slots.now.items = omega (arith, c.len-env.ensures) in
-    let v = c.in_ok-create_variables.ensures in
-    let t = c.in_ok-write_terms.ensures in
-    let u = c.in_ok-unify_all.ensures in
-    let no : c.in_ok-unify_all.field-0 ≡ false = search rules in
-    when_none c.args.code.now c.args.code.now refl k s c.args.args.now many
-    c.args.heap.now c.create_variables.new.heap c.args.slots.now.items c.create_variables.new.slots.items c.deref.result.now c.len-env.result
-    c.width_of.result c.end_of_terms-body.result c.deref.ensures.value at c.width_of.ensures v.made c.end_of_terms-body.ensures
-    c.write_terms.new.heap c.truncate.new.self.items c.write_terms.new.cells.items c.truncate.ensures.items c.requires.inside v.many v.counted t.counted
-    v.grown t.grown t.built
-    c.unify_all.new.heap u.counted c.in_ok-unify_all.field-0 u.found u.carried no
+pub returns-clause-front : goal.returns-clause-front
+returns-clause-front c =
+    let new = c.match_head.new.slots in
+    let written = all_written new (drop (length new) c.create_variables.new.slots.items) c.create_variables.new.slots.len
+        (sym (c.match_head.auto.slots ∙ c.as_mut_slice.ensures.len)) in
+    let begins = subst (λ (qs : List ℕ). IsPrefix c.args.slots.now.items qs) (sym c.as_mut_slice.ensures.value) c.in_ok-create_variables.ensures.front in
+    subst (λ (qs : List ℕ). IsPrefix c.args.slots.now.items qs) (sym written)
+    (c.in_ok-match_head.ensures.front c.args.slots.now.items (omega (arith, c.len-env.ensures)) begins)
+
+pub returns-clause-marks : goal.returns-clause-marks
+returns-clause-marks c =
+    marks_go_on c.args.heap.now c.create_variables.new.heap c.match_head.new.heap c.in_ok-create_variables.ensures.grown.marks
+    c.in_ok-match_head.ensures.marks

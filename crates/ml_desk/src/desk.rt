@@ -35,7 +35,16 @@ pub trait Desk {
     /// refers.
     ghost stays: { Self → Self → Type 0 };
 
-    /// Asks one operation.
+    /// Asks one operation. The reply is of its kind, and both then stand at the log's end. Of the
+    /// lists behind a desk nothing is told but the replies.
+    ///
+    /// After a refusal the attempt of the session is over, and its owner is to end it.
+    /// - `Died`: the session died, and the desk has its death, so it isn't asked again. Of the log
+    ///   nothing is told.
+    /// - `OutOfMemory`: the session is alive, and the log begins as before. What stands behind that
+    ///   isn't told: the operation may have been carried out and logged, and its reply lost. So
+    ///   the same operation may be asked again only where it is valid after the log that the desk
+    ///   has now; a kind of desk may promise that log and lists stayed.
     fn ask(&mut self, op: &Op) -> Result<Reply, DeskStop>
         requires alive { died self.old ≡ None }
         requires valid { IsTrue (is_valid_after (decls self.old) (log_seen (log self.old))

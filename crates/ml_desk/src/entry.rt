@@ -1,5 +1,5 @@
 //! Entries of a history.
-ghost use Rattle.std.specs.Prelude.{◌≡◌};
+ghost use Rattle.std.specs.Prelude.{◌≡◌, []};
 ghost use Rattle.ml_desk.specs.declared.sealed.Sealed.{Sealed};
 ghost use Rattle.ml_search.specs.Endings.{entry_ending};
 ghost use Rattle.ml_search.specs.declared.ending.EntryEnding.TheVariants as entry_ending;
@@ -11,12 +11,14 @@ use ml_writer::Lines;
 use std::alloc::Global;
 
 /// An entry of a history: a session by its number, how it ended, and its lines. One that found no
-/// memory has no lines.
+/// memory has no lines. `finished`: no line is unfinished, so the bytes of the lines are those of
+/// its finished ones, one after another.
 #[derive(Drop)]
 pub struct Entry {
     pub number: u32,
     pub ending: EntryEnding,
     pub lines: Lines,
+    pub ghost finished: { lines.unfinished ≡ [] },
 }
 
 impl Entry {

@@ -8,11 +8,13 @@ use ml_search::Reply;
 pub enum Stepped {
     /// The operation was carried out and logged, with this reply.
     Done(Reply),
-    /// Nothing was done: this session, a younger one, holds what the step needs, and so do only
-    /// younger ones.
+    /// Nothing was done. Others hold units that the step needs, in modes that exclude the one that
+    /// it needs, and each of these sessions is younger than the one that steps: its number is
+    /// greater. This is the least of their numbers.
     Wait(u32),
-    /// The session died. Its changes were taken back, and it holds nothing.
+    /// The session died, since an older one holds a unit that the step needs. Its changes were
+    /// taken back, it holds nothing, and it may begin again.
     Died(Death),
-    /// Memory was refused, and nothing was done.
+    /// Memory was refused. Nothing was done, and the session is alive.
     OutOfMemory,
 }

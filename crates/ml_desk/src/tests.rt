@@ -24,14 +24,16 @@ fn a_death_is_copied(rt: HostRuntime) -> Result<(), Fail> {
     let death = Death {
         session: 2,
         holder: 1,
-        pred: 0,
+        pred: 3,
         unit: Bits::from_bytes(rt.alloc(), b"a", 5)?,
         mode: Mode::X,
     };
     let copy = death.copy_of()?;
     assert_eq!(rt; copy.session, 2);
     assert_eq!(rt; copy.holder, 1);
+    assert_eq!(rt; copy.pred, 3);
     assert_eq!(rt; copy.unit.len(), 5);
+    assert!(rt; copy.unit == death.unit);
     assert!(rt; copy.mode == Mode::X);
     Ok(())
 }

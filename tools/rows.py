@@ -73,9 +73,9 @@ def run_case(command, case):
             shutil.copy(f'{ROWS}/{case}/{name}', room)
         # the model is no program of small stacks
         limit = small_stack if case.startswith(HOSTILE + '/') and len(command) == 1 else None
-        words = ['serial'] if len(command) == 1 else []
+        words, seconds = (['serial'], SECONDS) if len(command) == 1 else ([], 10 * SECONDS)
         try:
-            ran = subprocess.run([*command, *words, *texts(case)], cwd=room, stdin=subprocess.DEVNULL, capture_output=True, timeout=SECONDS, preexec_fn=limit, check=False)
+            ran = subprocess.run([*command, *words, *texts(case)], cwd=room, stdin=subprocess.DEVNULL, capture_output=True, timeout=seconds, preexec_fn=limit, check=False)
         except subprocess.TimeoutExpired as late:
             return None, late.stdout or b'', late.stderr or b''
     return ran.returncode, ran.stdout, ran.stderr

@@ -82,7 +82,7 @@ def run_case(command, case):
 
 
 def run_tried(names):
-    """What a program that `rt try` builds once does in each case: status and standard output, without standard error."""
+    """What a program that `rt try` builds once does in each case, as `wanted` has it. `rt try` gives both outputs as one."""
     with tempfile.TemporaryDirectory(prefix='megalog-') as room:
         words = []
         for case in names:
@@ -101,8 +101,14 @@ def run_tried(names):
     faults = re.findall(r'(?m)^case=\S+ run=(?!ended|no-answer).*', said)
     if not statuses or faults:
         print('\n'.join([*faults, said[-2000:]]))
-    found = {name: (int(status), found.get(name, '')) for name, status in statuses.items()}
-    return {case: found.get(case.replace('/', '.'), (None, '')) for case in names}
+    found = {name: (int(status), found.get(name, '').encode()) for name, status in statuses.items()}
+    return {case: parted(case, *found.get(case.replace('/', '.'), (None, b''))) for case in names}
+
+
+def parted(case, status, out):
+    """Status and outputs, where the line that the case wants on standard error may end what both outputs gave."""
+    line = wanted(case)[2]
+    return (status, out.removesuffix(line), line) if out.endswith(line) else (status, out, b'')
 
 
 def unlike(case, did):
@@ -131,8 +137,8 @@ def main():
         return 1
     wrong = []
     if mode == '--try':
-        for case, (status, out) in run_tried(names).items():
-            wrong += unlike(case, (status, out.encode(), wanted(case)[2]))
+        for case, did in run_tried(names).items():
+            wrong += unlike(case, did)
     else:
         for case in names:
             if mode != '--model' or wanted(case)[0] == 0:

@@ -1,6 +1,7 @@
 //! The desk over plain lists.
-ghost use Rattle.std.specs.Prelude.{◌≡◌, ◌≤◌, ◌++◌, ◌∷◌, [], true, IsTrue, IfOk, OnErr, length, map};
+ghost use Rattle.std.specs.Prelude.{◌≡◌, ◌≤◌, ◌++◌, ◌∷◌, [], true, IsTrue, IfOk, OnErr, None, length, map};
 ghost use Rattle.std.specs.Prelude.{vec_capacity, vec_len};
+ghost use Rattle.ml_desk.specs.Deaths.{death_of};
 ghost use Rattle.ml_list_desk.specs.Items.{lists_of_terms, lists_seen};
 ghost use Rattle.ml_list_desk.specs.inside.ListDesks.{asks_change, IsListDesk};
 ghost use Rattle.ml_list_desk.specs.inside.TreeCodes.{counts_are_a_set, cursors_are_a_set, decls_are_a_set};
@@ -30,7 +31,7 @@ use std::snapshot::Snapshot;
 
 /// A desk over plain lists, one for each declaration. Its replies are those that the definitions
 /// give over the lists that it was made of, and it has its changes in its lists. It never answers
-/// that a session died, and where memory is refused it stays as it was.
+/// that a session died, and where `ask` is refused memory its log and its lists stay.
 #[derive(Drop)]
 pub struct ListDesk {
     decls: Decls,
@@ -56,8 +57,12 @@ pub struct ListDesk {
 }
 
 impl ListDesk {
-    /// A desk of these declarations over plain lists of loaded items, one list for each
-    /// declaration: a relation's terms in the order of their keys, and clauses in their order.
+    /// A desk of these declarations that was asked nothing, over plain lists of loaded items, one
+    /// list for each declaration: a relation's terms in the order of their keys, and clauses in
+    /// their order. An item's place is 0, and its number is its place in the list, from 0. The
+    /// numbers have 32 bits, so a list of 2^32 terms or more is answered as want of memory.
+    ///
+    /// After a refusal there is no desk, and the lists are gone.
     pub fn new(alloc: Global, decls: &Decls, lists: Vec<Terms>) -> Result<ListDesk, AllocError>
         requires { IsTrue (is_db decls.now (load_lists (lists_of_terms lists.items))) }
         ensures log { IfOk result (λ desk. desk.log.items ≡ []) }
@@ -69,7 +74,8 @@ impl ListDesk {
         ListDesk::of_items(alloc, decls, items)
     }
 
-    /// The same over items that keep their ids.
+    /// The same over items that keep their ids, of which there may be any number. After a refusal
+    /// there is no desk, and the items are gone.
     pub fn of_items(
         alloc: Global,
         decls: &Decls,
@@ -107,7 +113,8 @@ impl ListDesk {
         self.log.as_slice()
     }
 
-    /// The terms of each list as the log left them. It takes no memory.
+    /// The terms of each list as the log left them, for each declaration in the list's order. It
+    /// takes no memory.
     pub fn into_lists(self) -> Vec<Terms>
         ensures { lists_of_terms result.items ≡ map terms (db_after_log self.decls
             (lists_seen self.first.value.items) (log_seen self.log.items) mine) }
@@ -129,8 +136,10 @@ impl ListDesk {
         taken
     }
 
-    /// The items of each list as the log left them, with their ids: those that the log put are the
-    /// session's own.
+    /// The items of each list as the log left them, for each declaration in the list's order, with
+    /// their ids: those that the log put are the session's own, each with the number of its change,
+    /// from 0, and all others have the ids that they came with. After a refusal the desk and its
+    /// items are gone.
     pub fn into_items(self) -> Result<Vec<ListItems>, AllocError>
         ensures { IfOk result (λ items. lists_seen items.items ≡ db_after_log self.decls
             (lists_seen self.first.value.items) (log_seen self.log.items) mine) }
@@ -153,7 +162,7 @@ impl ListDesk {
         Ok(items)
     }
 
-    // Opens a cursor over a declaration's list.
+    // Opens a cursor over a declaration's list. Cursors' numbers have 32 bits.
     fn open(&mut self, d: u32, pattern: &Term) -> Result<Reply, AllocError>
         requires { IsTrue (is_valid_after self.old.decls (log_seen self.old.log.items)
             (opens d (seen pattern.now))) }
@@ -161,7 +170,8 @@ impl ListDesk {
             self.new.log.items ≡ self.old.log.items ++ (op.Open d pattern.now, reply) ∷ []) }
         ensures kind { IfOk result (λ reply. IsTrue (is_reply_after self.old.decls
             (log_seen self.old.log.items) (opens d (seen pattern.now)) (reply_seen reply))) }
-        ensures err { OnErr result (self.new.log.items ≡ self.old.log.items) }
+        ensures refused { OnErr result (self.new.log.items ≡ self.old.log.items) }
+        ensures refused_lists { OnErr result (self.new.lists.items ≡ self.old.lists.items) }
         ensures decls { self.new.decls ≡ self.old.decls }
         ensures first { self.new.first.value ≡ self.old.first.value }
     {
@@ -187,7 +197,8 @@ impl ListDesk {
             self.new.log.items ≡ self.old.log.items ++ (op.Next c i, reply) ∷ []) }
         ensures kind { IfOk result (λ reply. IsTrue (is_reply_after self.old.decls
             (log_seen self.old.log.items) (next c i) (reply_seen reply))) }
-        ensures err { OnErr result (self.new.log.items ≡ self.old.log.items) }
+        ensures refused { OnErr result (self.new.log.items ≡ self.old.log.items) }
+        ensures refused_lists { OnErr result (self.new.lists.items ≡ self.old.lists.items) }
         ensures decls { self.new.decls ≡ self.old.decls }
         ensures first { self.new.first.value ≡ self.old.first.value }
     {
@@ -208,7 +219,8 @@ impl ListDesk {
             self.new.log.items ≡ self.old.log.items ++ (op.now, reply) ∷ []) }
         ensures kind { IfOk result (λ reply. IsTrue (is_reply_after self.old.decls
             (log_seen self.old.log.items) (operation_seen op.now) (reply_seen reply))) }
-        ensures err { OnErr result (self.new.log.items ≡ self.old.log.items) }
+        ensures refused { OnErr result (self.new.log.items ≡ self.old.log.items) }
+        ensures refused_lists { OnErr result (self.new.lists.items ≡ self.old.lists.items) }
         ensures decls { self.new.decls ≡ self.old.decls }
         ensures first { self.new.first.value ≡ self.old.first.value }
     {
@@ -250,7 +262,26 @@ impl Desk for ListDesk {
 
     ghost is_logged = { λ d. d.kept.logged };
 
-    fn ask(&mut self, op: &Op) -> Result<Reply, DeskStop> {
+    /// Asks one operation. The one refusal is want of memory, as which an opening is answered too
+    /// where 2^32 cursors are open.
+    /// `replays`: the log has the replies of the plain lists that the desk was made of.
+    /// `refused`, `refused_lists`: after a refusal log and lists stay, so the same operation may be
+    /// asked again.
+    fn ask(&mut self, op: &Op) -> Result<Reply, DeskStop>
+        requires valid { IsTrue (is_valid_after self.old.decls (log_seen self.old.log.items)
+            (operation_seen op.now)) }
+        ensures logged { IfOk result (λ reply.
+            self.new.log.items ≡ self.old.log.items ++ (op.now, reply) ∷ []) }
+        ensures kind { IfOk result (λ reply. IsTrue (is_reply_after self.old.decls
+            (log_seen self.old.log.items) (operation_seen op.now) (reply_seen reply))) }
+        ensures died { death_of result ≡ None }
+        ensures decls { self.new.decls ≡ self.old.decls }
+        ensures site { self.new.first.value ≡ self.old.first.value }
+        ensures replays { Replays self.new.decls (lists_seen self.new.first.value.items)
+            (log_seen self.new.log.items) }
+        ensures refused { OnErr result (self.new.log.items ≡ self.old.log.items) }
+        ensures refused_lists { OnErr result (self.new.lists.items ≡ self.old.lists.items) }
+    {
         match op {
             Op::Open(d, pattern) => Ok(self.open(*d, pattern)?),
             Op::Next(c, i) => Ok(self.next(*c, *i)?),

@@ -11,7 +11,7 @@ use ml_search::Decls;
 use ml_term::Terms;
 use std::alloc::{AllocError, Global};
 
-// The loaded items of some terms: their numbers are their places.
+// The loaded items of some terms: their numbers are their places, which have 32 bits.
 fn loaded_items(alloc: Global, terms: Terms) -> Result<ListItems, AllocError>
     ensures { IfOk result (λ items. items_seen items ≡ load_list_from 0 (map seen terms)) }
 {

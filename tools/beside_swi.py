@@ -6,8 +6,10 @@ Use, anywhere: tools/beside_swi.py [SUBJECT | SUBJECT/CASE ..]     cases of rows
 It takes `swipl` (Debian's swi-prolog-nox), and is no part of the gate. Each script's goals are searched in one SWI-Prolog, whose
 stored predicates are dynamic and hold what tools/rows_model.py says was committed before that script, in its order; a relation
 stays in that order, new tuples last. The session's end, inferences and commit_unless are this language's own, so answers and
-errors of the goals alone are compared, with those that the model gives. Of a script the first difference alone is told.
+errors of the goals alone are compared, with those that the model gives. Of a goal the first difference alone is
+told, and a script on which SWI-Prolog works longer than SECONDS is left there.
 """
+import itertools
 import os
 import re
 import subprocess
@@ -18,6 +20,7 @@ import rows_model
 from repository import TOP
 
 ROWS = f'{TOP}/rows'
+SECONDS = 20
 PRELUDE = """:- set_prolog_flag(occurs_check, true).
 :- set_prolog_flag(double_quotes, codes).
 :- style_check(-singleton).
@@ -57,9 +60,13 @@ def run_script(room, program, lists, source):
     lines.append(f'run :- catch(( {calls} ), over, true).\n')
     with open(f'{room}/all.pl', 'w', encoding='utf-8') as file:
         file.write(''.join(lines))
-    ran = subprocess.run(['swipl', '--traditional', '-q', '-g', 'run', '-t', 'halt', 'all.pl'], cwd=room, capture_output=True, text=True, timeout=120, check=False)
+    try:
+        ran = subprocess.run(['swipl', '--traditional', '-q', '-g', 'run', '-t', 'halt', 'all.pl'], cwd=room, capture_output=True, text=True, timeout=SECONDS, check=False)
+        said, complaints = ran.stdout, ran.stderr
+    except subprocess.TimeoutExpired as late:
+        said, complaints = (late.stdout or b'').decode(), f'nothing more within {SECONDS} seconds'
     printed, shown = [], []
-    for line in ran.stdout.split('\n'):
+    for line in said.split('\n'):
         word, _, rest = line.partition(' ')
         if line.startswith('goal('):
             j = int(line[5:-1])
@@ -78,7 +85,30 @@ def run_script(room, program, lists, source):
                 printed.append('  error ' + rows_model.text(term, numbers))
             else:
                 printed.append('  ' + (', '.join(f'{n} = {rows_model.text(v, numbers)}' for n, v in zip(shown, rows_model.list_of(term))) or 'true'))
-    return printed, ran.stderr
+    return printed, complaints
+
+
+def by_goal(lines):
+    """The lines below each line of a goal."""
+    found = {}
+    for line in lines:
+        if line.startswith('goal '):
+            found[line] = []
+        elif found:
+            found[list(found)[-1]].append(line)
+    return found
+
+
+def beside(ours, theirs):
+    """The first lines that differ, goal by goal, as far as both went: the goal, our line and theirs."""
+    ours, theirs = by_goal(ours), by_goal(theirs)
+    for goal in ours:
+        if goal not in theirs:
+            break
+        for mine, other in itertools.zip_longest(ours[goal], theirs[goal], fillvalue=''):
+            if mine != other:
+                yield goal, mine[:150], other[:150]
+                break
 
 
 def compare_case(case):
@@ -92,14 +122,8 @@ def compare_case(case):
         with tempfile.TemporaryDirectory(prefix='megalog-') as room:
             theirs, complaints = run_script(room, program, lists, read(name))
         block, lists = rows_model.run_session(number, program, lists, read(name))
-        ours = block[1:]
-        for place, line in enumerate(ours):
-            if line not in theirs[place:place + 1]:
-                yield f'{case}/{name}: ours {line[:150]!r}, theirs {"".join(theirs[place:place + 1])[:150]!r}'
-                break
-        else:
-            if len(theirs) > len(ours):
-                yield f'{case}/{name}: theirs goes on with {theirs[len(ours)]!r}'
+        for goal, mine, other in beside(block[1:], theirs):
+            yield f'{case}/{name} {goal}: ours {mine!r}, theirs {other!r}'
         if complaints.strip():
             yield f'{case}/{name}: it says {complaints.strip()[:300]}'
 
@@ -110,7 +134,7 @@ def main():
         word = word.strip('/').removeprefix('rows/')
         names += [word] if '/' in word else [f'{word}/{it}' for it in sorted(os.listdir(f'{ROWS}/{word}'))]
     found = [it for name in names for it in compare_case(name)]
-    print('\n'.join([*found, f'{len(names)} cases, {len({it.split("/s")[0] for it in found})} of them differ']))
+    print('\n'.join([*found, f'{len(names)} cases, {len({"/".join(it.split("/")[:2]) for it in found})} of them differ']))
 
 
 if __name__ == '__main__':

@@ -73,16 +73,16 @@ def run_case(command, case):
             shutil.copy(f'{ROWS}/{case}/{name}', room)
         # the model is no program of small stacks
         limit = small_stack if case.startswith(HOSTILE + '/') and len(command) == 1 else None
-        words = ['serial'] if len(command) == 1 else []
+        words, seconds = (['serial'], SECONDS) if len(command) == 1 else ([], 10 * SECONDS)
         try:
-            ran = subprocess.run([*command, *words, *texts(case)], cwd=room, stdin=subprocess.DEVNULL, capture_output=True, timeout=SECONDS, preexec_fn=limit, check=False)
+            ran = subprocess.run([*command, *words, *texts(case)], cwd=room, stdin=subprocess.DEVNULL, capture_output=True, timeout=seconds, preexec_fn=limit, check=False)
         except subprocess.TimeoutExpired as late:
             return None, late.stdout or b'', late.stderr or b''
     return ran.returncode, ran.stdout, ran.stderr
 
 
 def run_tried(names):
-    """What a program that `rt try` builds once does in each case: status and standard output, without standard error."""
+    """What a program that `rt try` builds once does in each case, as `wanted` has it. `rt try` gives both outputs as one."""
     with tempfile.TemporaryDirectory(prefix='megalog-') as room:
         words = []
         for case in names:
@@ -101,8 +101,14 @@ def run_tried(names):
     faults = re.findall(r'(?m)^case=\S+ run=(?!ended|no-answer).*', said)
     if not statuses or faults:
         print('\n'.join([*faults, said[-2000:]]))
-    found = {name: (int(status), found.get(name, '')) for name, status in statuses.items()}
-    return {case: found.get(case.replace('/', '.'), (None, '')) for case in names}
+    found = {name: (int(status), found.get(name, '').encode()) for name, status in statuses.items()}
+    return {case: parted(case, *found.get(case.replace('/', '.'), (None, b''))) for case in names}
+
+
+def parted(case, status, out):
+    """Status and outputs, where the line that the case wants on standard error may end what both outputs gave."""
+    line = wanted(case)[2]
+    return (status, out.removesuffix(line), line) if out.endswith(line) else (status, out, b'')
 
 
 def unlike(case, did):
@@ -131,8 +137,8 @@ def main():
         return 1
     wrong = []
     if mode == '--try':
-        for case, (status, out) in run_tried(names).items():
-            wrong += unlike(case, (status, out.encode(), wanted(case)[2]))
+        for case, did in run_tried(names).items():
+            wrong += unlike(case, did)
     else:
         for case in names:
             if mode != '--model' or wanted(case)[0] == 0:

@@ -1,0 +1,1 @@
+:- relation(p/1). :- relation(p/1).

@@ -12,18 +12,20 @@ use ml_writer::Lines;
 use std::alloc::{AllocError, Global};
 use std::test::Fail;
 
-/// A desk without lists. It has memory for no reply.
+/// A desk that has memory for no reply.
 #[derive(Drop)]
-struct NoLists;
+struct FullDesk {
+    decls: Decls,
+}
 
-impl Desk for NoLists {
+impl Desk for FullDesk {
     ghost use Rattle.std.specs.Prelude.{None, [], refl};
 
     type Site = u8;
 
     ghost log = { λ d. [] };
 
-    ghost decls = { λ d. [] };
+    ghost decls = { λ d. d.decls };
 
     ghost site = { λ d. 0 };
 
@@ -39,6 +41,15 @@ impl Desk for NoLists {
 
     fn ask(&mut self, _op: &Op) -> Result<Reply, DeskStop> {
         Err(DeskStop::OutOfMemory)
+    }
+}
+
+// Such a desk without declarations.
+fn full_desk(alloc: Global) -> FullDesk
+    ensures { result.decls ≡ [] }
+{
+    FullDesk {
+        decls: Decls::new(alloc),
     }
 }
 
@@ -115,15 +126,9 @@ fn each_answer_has_its_line(rt: HostRuntime) -> Result<(), Fail> {
     let program = loaded(alloc)?;
     let goal = goal(alloc)?;
     let mut budget = Budget { left: 10 };
+    let mut desk = full_desk(alloc);
     let mut lines = Lines::new(alloc);
-    let end = solve(
-        alloc,
-        &program,
-        &goal,
-        &mut budget,
-        &mut NoLists,
-        &mut lines,
-    );
+    let end = solve(alloc, &program, &goal, &mut budget, &mut desk, &mut lines);
     assert!(rt; matches!(end, Ok(GoalEnd::Finished(2))));
     assert!(rt; lines.bytes() == b"  X = 1\n  X = 2\n".as_slice());
     assert!(rt; budget.left == 9);
@@ -136,7 +141,8 @@ fn a_search_stops_at_its_first_answer(rt: HostRuntime) -> Result<(), Fail> {
     let program = loaded(alloc)?;
     let goal = goal(alloc)?;
     let mut budget = Budget { left: 10 };
-    let found = has_answer(alloc, &program, &goal, &mut budget, &mut NoLists);
+    let mut desk = full_desk(alloc);
+    let found = has_answer(alloc, &program, &goal, &mut budget, &mut desk);
     assert!(rt; matches!(found, Ok(Found::Yes)));
     Ok(())
 }
@@ -147,7 +153,8 @@ fn a_search_without_inferences_raises_that(rt: HostRuntime) -> Result<(), Fail> 
     let program = loaded(alloc)?;
     let goal = goal(alloc)?;
     let mut budget = Budget { left: 0 };
-    let found = has_answer(alloc, &program, &goal, &mut budget, &mut NoLists);
+    let mut desk = full_desk(alloc);
+    let found = has_answer(alloc, &program, &goal, &mut budget, &mut desk);
     assert!(rt; matches!(found, Ok(Found::Raised(_))));
     Ok(())
 }

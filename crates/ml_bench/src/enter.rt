@@ -74,7 +74,11 @@ fn longer_head(alloc: Global) -> Result<Term, AllocError>
         (compound_2 (codes ".") (variable 0) (variable 1)) (variable 2)
         (compound_2 (codes ".") (variable 0) (variable 3))) }
 {
-    let args = vec![in alloc; list_cell(alloc, 0, 1)?, Term::Var(2), list_cell(alloc, 0, 3)?]?;
+    let args = vec![in alloc;
+        list_cell(alloc, 0, 1)?,
+        Term::Var(2),
+        list_cell(alloc, 0, 3)?,
+    ]?;
     Ok(Term::Cmp(Name::new(alloc, b"append")?, Args::new(args)))
 }
 

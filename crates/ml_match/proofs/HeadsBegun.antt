@@ -120,5 +120,6 @@ module _ (code : List Instr) (c : Clause) (s : SpellsClause code c) (args : List
       where
         met_or_unmet : (n met : ℕ) → (n < met) ⊎ (met ≤ n)
         met_or_unmet n met = grind arith
+
         slot : (n : ℕ) → n < w → HasSlot h3 slots' (env + n)
         slot n l = elim (met_or_unmet n r.met) [ inl m ↦ (r.met_slots n m).slot | inr m ↦ (r.unmet_slots n m l).slot ]

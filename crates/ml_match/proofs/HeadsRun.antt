@@ -94,7 +94,7 @@ module _ (code : List Instr) (es : List Equation) (old : Changes) (next wide env
   rest_within : (t : Tree) (rest : List Tree) → s.terms ≡ t ∷ rest → (k : ℕ) → In k (variables_of (trees_of rest)) → k < wide
   rest_within t rest is k i =
       let l = matched_below s.matches k (subst (λ (ts : List Tree). In k (variables_of (trees_of ts))) (sym is)
-          (in_right k (variables t) (variables_of (trees_of rest)) i)) in
+      (in_right k (variables t) (variables_of (trees_of rest)) i)) in
       omega (arith, l, s.within)
 
   -- the first term was unified with what the cell stands for; cells may have been made for that
@@ -202,6 +202,7 @@ module _ (code : List Instr) (es : List Equation) (old : Changes) (next wide env
       where
         eq_or_not : (a b : ℕ) → (a ≡ b) ⊎ (a ≢ b)
         eq_or_not a b = elim (eqb_tells a b) [ inl e ↦ inl e.1 | inr e ↦ inr e.1 ]
+
         inside : (j ≡ s.met) ⊎ (j ≢ s.met) → get_or slots' (env + j) 0 < cell_count h
         inside (inl e) = omega (arith, ap (λ i. get_or slots' (env + i) 0) e, at_it, cell_inside)
         inside (inr d) = omega (arith, elsewhere j d, slot_inside h slots (env + j) (all_slots j l) 0)
@@ -285,6 +286,7 @@ module _ (code : List Instr) (es : List Equation) (old : Changes) (next wide env
       where
         earlier : (j : ℕ) → j < s.met + 1 → (j ≢ s.met) → j < s.met
         earlier j l d = grind (arith, d)
+
         later : (j : ℕ) → s.met + 1 ≤ j → j ≡ s.met → ⊥
         later j l e = omega arith
 
@@ -337,20 +339,20 @@ module _ (code : List Instr) (es : List Equation) (old : Changes) (next wide env
     apart =
         let ts : List Tree = map (stands_for h) args in
         let many' : arity (trees_of ts) ≡ arity (substitute_in value us) =
-            omega (arith, arity_listed ts, length-map args (stands_for h), many, arity_kept value us) in
+        omega (arith, arity_listed ts, length-map args (stands_for h), many, arity_kept value us) in
         let second : list_of (substitute_in value us) ≡ map (substitute value) (list_of us) =
-            ap list_of (ap (substitute_in value) (sym (trees_listed us)) ∙ substituted_trees value (list_of us))
-            ∙ listed (map (substitute value) (list_of us)) in
+        ap list_of (ap (substitute_in value) (sym (trees_listed us)) ∙ substituted_trees value (list_of us))
+        ∙ listed (map (substitute value) (list_of us)) in
         let pairs_are : zip (list_of (trees_of ts)) (list_of (substitute_in value us)) ≡ zip ts (map (substitute value) (list_of us)) =
-            ap (λ x. zip x (list_of (substitute_in value us))) (listed ts) ∙ ap (zip ts) second in
+        ap (λ x. zip x (list_of (substitute_in value us))) (listed ts) ∙ ap (zip ts) second in
         let long : length ts ≡ length (map (substitute value) (list_of us)) =
-            omega (arith, length-map args (stands_for h), length-map (list_of us) (substitute value), args_long) in
+        omega (arith, length-map args (stands_for h), length-map (list_of us) (substitute value), args_long) in
         let joined : zip ts (map (substitute value) (list_of us)) ++ later_left
-            ≡ zip (map (stands_for h) (reverse (todo' ++ reverse args))) (map (substitute value) (list_of us ++ rest)) =
-            sym (zip_both ts (map (substitute value) (list_of us)) (map (stands_for h) (reverse todo')) (map (substitute value) rest) long)
-            ∙ (ap (λ x. zip x (map (substitute value) (list_of us) ++ map (substitute value) rest))
-            (sym (map-append (stands_for h) args (reverse todo')) ∙ ap (map (stands_for h)) (sym put_on))
-            ∙ ap (zip (map (stands_for h) (reverse (todo' ++ reverse args)))) (sym (map-append (substitute value) (list_of us) rest))) in
+        ≡ zip (map (stands_for h) (reverse (todo' ++ reverse args))) (map (substitute value) (list_of us ++ rest)) =
+        sym (zip_both ts (map (substitute value) (list_of us)) (map (stands_for h) (reverse todo')) (map (substitute value) rest) long)
+        ∙ (ap (λ x. zip x (map (substitute value) (list_of us) ++ map (substitute value) rest))
+        (sym (map-append (stands_for h) args (reverse todo')) ∙ ap (map (stands_for h)) (sym put_on))
+        ∙ ap (zip (map (stands_for h) (reverse (todo' ++ reverse args)))) (sym (map-append (substitute value) (list_of us) rest))) in
         ap (λ w. solve_equations ((w, substitute value (compound f us)) ∷ later_left) s.solving.map_so_far) shown
         ∙ (arguments_solved f (trees_of ts) (substitute_in value us) later_left s.solving.map_so_far many'
         ∙ ap (λ fs. solve_equations fs s.solving.map_so_far) (ap (λ x. x ++ later_left) pairs_are ∙ joined))

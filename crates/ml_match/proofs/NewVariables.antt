@@ -19,6 +19,7 @@ get_last (y ∷ xs) x = get_last xs x
 
 pub prefix_more : (xs ys zs : List ℕ) (z : ℕ) → IsPrefix xs ys → zs ≡ ys ++ z ∷ [] → IsPrefix xs zs
 prefix_more xs ys zs z p e = (p.0 ++ z ∷ [], sym (append_assoc xs p.0 (z ∷ [])) ∙ (ap (λ w. w ++ z ∷ []) p.1 ∙ sym e))
+
 -- what stands before a place stays where the place is set
 set_behind : (before rest : List ℕ) (i x : ℕ) → length before ≤ i → (rest' : List ℕ) × (before ++ rest' ≡ set (before ++ rest) i x)
 set_behind [] rest i x l = (set rest i x, refl)

@@ -21,7 +21,7 @@ pub returns-in_err-match_head-clause-front : goal.returns-in_err-match_head-clau
 returns-in_err-match_head-clause-front c =
     let new = c.match_head.new.slots in
     let written = all_written new (drop (length new) c.create_variables.new.slots.items) c.create_variables.new.slots.len
-        (sym (c.match_head.auto.slots ∙ c.as_mut_slice.ensures.len)) in
+    (sym (c.match_head.auto.slots ∙ c.as_mut_slice.ensures.len)) in
     let begins = subst (λ (qs : List ℕ). IsPrefix c.args.slots.now.items qs) (sym c.as_mut_slice.ensures.value) c.in_ok-create_variables.ensures.front in
     subst (λ (qs : List ℕ). IsPrefix c.args.slots.now.items qs) (sym written)
     (c.in_err-match_head.ensures.front c.args.slots.now.items (omega (arith, c.len-env.ensures)) begins)
@@ -38,13 +38,13 @@ returns-clause-entered c k s many =
     let m = c.in_ok-match_head.ensures in
     let new = c.match_head.new.slots in
     let written = all_written new (drop (length new) c.create_variables.new.slots.items) c.create_variables.new.slots.len
-        (sym (c.match_head.auto.slots ∙ c.as_mut_slice.ensures.len)) in
+    (sym (c.match_head.auto.slots ∙ c.as_mut_slice.ensures.len)) in
     let begun = running_begins c.args.code.now k s c.args.args.now many c.args.heap.now c.args.slots.now.items c.len-env.result at
-        c.width_of.result c.width_of.ensures c.create_variables.new.heap c.create_variables.new.slots.items c.as_mut_slice.result.now
-        c.push_turned.new.todo.items c.as_mut_slice.ensures.value c.requires.inside v.grown
-        (c.in_ok-push_turned.ensures ∙ ap (λ (qs : List ℕ). qs ++ reverse c.args.args.now) c.truncate.ensures.items) v.made in
+    c.width_of.result c.width_of.ensures c.create_variables.new.heap c.create_variables.new.slots.items c.as_mut_slice.result.now
+    c.push_turned.new.todo.items c.as_mut_slice.ensures.value c.requires.inside v.grown
+    (c.in_ok-push_turned.ensures ∙ ap (λ (qs : List ℕ). qs ++ reverse c.args.args.now) c.truncate.ensures.items) v.made in
     subst (λ (qs : List ℕ). HasEntered c.args.code.now c.args.heap.now c.match_head.new.heap c.args.slots.now.items qs k
-        (map (stands_for c.args.heap.now) c.args.args.now) c.in_ok-match_head.field-0) (sym written)
+    (map (stands_for c.args.heap.now) c.args.args.now) c.in_ok-match_head.field-0) (sym written)
     (running_ends c.args.code.now k s c.args.args.now many c.args.heap.now c.args.slots.now.items c.len-env.result at
     c.width_of.result c.width_of.ensures c.create_variables.new.heap c.match_head.new.heap c.as_mut_slice.result.now new v.counted m.counted
     (ap length c.as_mut_slice.ensures.value ∙ v.many) m.many c.in_ok-match_head.field-0 (m.goes_on _ _ _ _ _ begun))
@@ -53,7 +53,7 @@ pub returns-clause-front : goal.returns-clause-front
 returns-clause-front c =
     let new = c.match_head.new.slots in
     let written = all_written new (drop (length new) c.create_variables.new.slots.items) c.create_variables.new.slots.len
-        (sym (c.match_head.auto.slots ∙ c.as_mut_slice.ensures.len)) in
+    (sym (c.match_head.auto.slots ∙ c.as_mut_slice.ensures.len)) in
     let begins = subst (λ (qs : List ℕ). IsPrefix c.args.slots.now.items qs) (sym c.as_mut_slice.ensures.value) c.in_ok-create_variables.ensures.front in
     subst (λ (qs : List ℕ). IsPrefix c.args.slots.now.items qs) (sym written)
     (c.in_ok-match_head.ensures.front c.args.slots.now.items (omega (arith, c.len-env.ensures)) begins)

@@ -27,7 +27,7 @@ loop-cell-smaller c =
     let s = c.loop-cell.invariant.running r.equations r.old r.next r.wide r.q r.running in
     let here = here_within _ _ _ _ _ _ _ _ _ _ _ s _ _ c.in-Some.ensures.items in
     let later : c.loop-cell.at < c.in-Some-2.next =
-        subst (λ (o : Option ℕ). IfSome o (λ next. c.loop-cell.at < next)) c.in-Some-2.is c.in_ok-next.ensures.later in
+    subst (λ (o : Option ℕ). IfSome o (λ next. c.loop-cell.at < next)) c.in-Some-2.is c.in_ok-next.ensures.later in
     omega (arith, here, later)
 
 pub loop-cell-preserved : goal.loop-cell-preserved
@@ -37,7 +37,7 @@ loop-cell-preserved c =
     record {
       running = λ es old next wide q s.
           subst (λ (o : Option ℕ). RunsOn c.args.code.now es old next wide c.args.env q c.match_term.new.heap c.match_term.new.slots
-              c.match_term.new.todo.items o) c.in-Some-2.is
+          c.match_term.new.todo.items o) c.in-Some-2.is
           (e.goes_on es old next wide q
           (subst (λ (qs : List ℕ). IsRunning c.args.code.now es old next wide c.args.env q c.loop-cell.at c.loop-cell.heap c.loop-cell.slots qs)
           c.in-Some.ensures.items (i.running es old next wide q s)));
@@ -50,7 +50,7 @@ loop-cell-preserved c =
 pub returns-in-None-clause-goes_on : goal.returns-in-None-clause-goes_on
 returns-in-None-clause-goes_on c es old next wide q s =
     subst (λ (o : Option ℕ). RunsOn c.args.code.now es old next wide c.args.env q c.match_term.new.heap c.match_term.new.slots
-        c.match_term.new.todo.items o) c.in-None.is
+    c.match_term.new.todo.items o) c.in-None.is
     (c.in_ok-next.ensures.goes_on es old next wide q
     (subst (λ (qs : List ℕ). IsRunning c.args.code.now es old next wide c.args.env q c.loop-cell.at c.loop-cell.heap c.loop-cell.slots qs)
     c.in-Some.ensures.items (c.loop-cell.invariant.running es old next wide q s)))

@@ -25,7 +25,7 @@ overflow_add-at c =
     let lt = here_within _ _ _ _ _ _ _ _ _ _ _ r.running _ _ refl in
     let y = reads _ _ c.index-code-at.result c.index-code-at.result lt (sym c.index-code-at.is) in
     let f = ends_by c.index-code-at.result y r.q r.running.met r.running.after r.running.terms r.running.matches
-        (early _ _ _ _ _ _ _ _ _ _ _ r.running _ _ refl) in
+    (early _ _ _ _ _ _ _ _ _ _ _ r.running _ _ refl) in
     let end = end_within _ _ _ _ _ _ _ _ _ _ _ r.running _ _ refl _ f in
     let le : c.args.at + c.size_of.result ≤ length c.args.code.now = omega (arith, end, c.size_of.ensures) in
     search rules

@@ -1,11 +1,11 @@
 -- Homes of keys where a prefix comes or goes.
-use Rattle.std.proofs.Common.{◌≡◌, ◌≢◌, ◌⊎◌, inl, inr, ℕ, ◌<◌, ◌≤◌, Bool, true, false, List, [], ◌∷◌, length, refl, sym, ap, ◌∙◌, subst, arith}
+use Rattle.std.proofs.Common.{◌≡◌, ◌≢◌, ◌⊎◌, inl, inr, ℕ, zero, suc, ◌<◌, ◌≤◌, Bool, true, false, List, [], ◌∷◌, length, refl, sym, ap, ◌∙◌, subst, arith}
 use Rattle.std.specs.Prelude.{Contains, Option}
 use Rattle.std.proofs.lemmas.Bool.{cases_lt}
 use Rattle.std.proofs.lemmas.List.{get_or_default}
 use Rattle.std.proofs.lemmas.List.Elements.{Contains-get_or, Contains-append_cases, Contains-append_right}
 use Rattle.ml_bits.specs.BitList.{Begins}
-use Rattle.ml_bits.proofs.OrderLaws.{begins_both, begins_shorter, begins_trans, begins_within}
+use Rattle.ml_bits.proofs.OrderLaws.{begins_both, begins_shorter, begins_trans}
 use Rattle.ml_key.proofs.BitBeginnings.{begun, begins_so, owner_holds}
 use Rattle.ml_region.specs.Prefixes.{IsOwner, IsParent, bits_at}
 use Rattle.ml_term.specs.Patterns.{begins, fits, may_hold}

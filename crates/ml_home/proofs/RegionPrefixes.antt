@@ -1,14 +1,12 @@
 -- The prefixes of regions that change.
-use Rattle.std.proofs.Common.{◌≡◌, ◌≢◌, ◌⊎◌, inl, inr, ℕ, ◌+◌, ◌<◌, ◌≤◌, Bool, List, [], ◌∷◌, ◌++◌, length, get_or, refl, sym, ap, ◌∙◌, subst, arith}
+use Rattle.std.proofs.Common.{◌≡◌, inl, inr, ℕ, suc, ◌+◌, ◌<◌, Bool, List, [], ◌∷◌, ◌++◌, length, get_or, refl, sym, ap, ◌∙◌, subst, arith}
 use Rattle.std.specs.Prelude.{Contains}
 use Rattle.std.specs.List.{insert, remove}
-use Rattle.std.specs.declared.cmp.Ordering.TheVariants.{Less}
 use Rattle.std.proofs.lemmas.Bool.{cases_lt}
 use Rattle.std.proofs.lemmas.List.{get_or_default}
 use Rattle.std.proofs.lemmas.List.Edits.{length-remove}
 use Rattle.std.proofs.lemmas.List.Elements.{Contains-get_or, Contains-append_cases}
 use Rattle.std.proofs.lemmas.List.Sorted.{Contains-permutation, IsPermutation-insert, IsPermutation-remove, IsPermutation-sym}
-use Rattle.ml_bits.specs.BitList.{Begins}
 use Rattle.ml_region.specs.Changes.{IsCut, IsMarked, IsMerged, IsPut, IsTaken, items_beside}
 use Rattle.ml_region.specs.Prefixes.{IsOwner, IsParent, IsPlaceFor, IsRising, bits_at}
 use Rattle.ml_region.specs.Regions.{IsWellPlaced, Region, items_at, keys_at, region_at, region_prefixes, with_items}
@@ -53,7 +51,7 @@ come_by_remove : (ps : List (List Bool)) (i : ℕ) → IsRising ps → i < lengt
 come_by_remove ps i up h =
     let p : List Bool = bits_at ps i in
     let long : length (remove ps i) + 1 ≡ length ps = length-remove ps i h in
-    let moved = IsPermutation-remove ps i p h (sym (get_or_default ps i [] p h)) in
+    let moved = IsPermutation-remove ps i p h (get_or_default ps i [] p h) in
     record {
       fresh = λ there.
           let within : there.0 < length (remove ps i) = there.1 in

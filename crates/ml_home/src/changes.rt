@@ -35,7 +35,7 @@ pub fn prefixes_of_cut_and_merged_regions()
         HasCome (region_prefixes new) (region_prefixes old) (region_at old i).prefix }
     ensures parent { (old new : List Region) (i : ℕ) → (merged : IsMerged old i new) →
         IsAbove (region_prefixes old) (region_at old i).prefix
-            (region_at old merged.parent).prefix }
+        (region_at old merged.parent).prefix }
 {}
 
 /// A region that is split for a further key brings the prefix of the rule, which divides the home
@@ -57,5 +57,5 @@ pub fn prefixes_of_a_settled_region()
         IsSettled old i new → (parent : ℕ) →
         IsParent (region_prefixes old) (region_at old i).prefix parent →
         HasMoved (region_prefixes old) (region_at old i).prefix (region_at old parent).prefix
-            (region_prefixes new) }
+        (region_prefixes new) }
 {}

@@ -1,0 +1,2 @@
+pub mod PrefixHomes
+pub mod RegionPrefixes

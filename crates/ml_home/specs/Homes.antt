@@ -1,5 +1,5 @@
--- Which of some prefixes a key is at home in. A home is named by the prefix itself: places in a list
--- move when regions come and go, and prefixes stay. The code names regions by their places.
+-- Which of some prefixes a key is at home in. A home is named by the prefix itself: places in a
+-- list move when regions come and go, and prefixes stay. The code names regions by their places.
 use Rattle.std.specs.Prelude.{◌<◌, ◌≤◌, ◌≡◌, ◌⊎◌, Bool, List, length, Contains}
 use Rattle.ml_bits.specs.BitList.{Begins}
 

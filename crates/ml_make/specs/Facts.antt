@@ -16,6 +16,7 @@ facts_from zero i x = []
 facts_from (suc n) i x =
     (first_argument (number_behind x), i) ∷ facts_from n (i + 1) (number_behind x)
 
--- the arguments of the facts of made rules: the generator begins at 0, and facts are numbered from 1
+-- the arguments of the facts of made rules: the generator begins at 0, and facts are numbered from
+-- 1
 abbrev pub made_facts : ℕ → List (ℕ × ℕ)
 made_facts n = facts_from n 1 0

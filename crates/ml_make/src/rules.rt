@@ -24,12 +24,7 @@ pub fn make_rules(alloc: Global, facts: u32) -> Result<Vec<u8>, AllocError>
 }
 
 // Puts the line of a fact behind a text.
-fn put_fact(
-    alloc: Global,
-    first: u32,
-    second: u32,
-    text: &mut Vec<u8>,
-) -> Result<(), AllocError>
+fn put_fact(alloc: Global, first: u32, second: u32, text: &mut Vec<u8>) -> Result<(), AllocError>
     ensures { IfOk result
         (λ done. text.new.items ≡ text.old.items ++ fact_line (first, second)) }
 {

@@ -1,5 +1,5 @@
 //! The scripts of a made run.
-ghost use Rattle.std.specs.Prelude.{◌≡◌, ◌≤◌, ◌++◌, IfOk, codes};
+ghost use Rattle.std.specs.Prelude.{◌≡◌, ◌≤◌, IfOk};
 ghost use Rattle.std.specs.String.{string_bytes};
 ghost use Rattle.ml_make.specs.Limits.{made_scripts};
 ghost use Rattle.ml_make.specs.Texts.{goal_text, script_text, script_with};
@@ -14,30 +14,26 @@ pub fn make_script(alloc: Global, number: u32) -> Result<Vec<u8>, AllocError>
     ensures { IfOk result (λ text. text.items ≡ script_text number) }
 {
     let goal = goal_text(alloc, number - 1)?;
-    script_with(alloc, goal.as_slice())
+    let text = script_with(alloc, goal.as_str())?;
+    Ok(text.into_bytes())
 }
 
 // `m(Q,B)`, for this Q.
-fn goal_text(alloc: Global, first: u32) -> Result<Vec<u8>, AllocError>
-    ensures { IfOk result (λ text. text.items ≡ goal_text first) }
+fn goal_text(alloc: Global, first: u32) -> Result<String, AllocError>
+    ensures { IfOk result (λ text. string_bytes text ≡ goal_text first) }
 {
     std_writes_decimal_texts();
-    let goal = format!(in alloc; "m({first},B)")?;
-    Vec::from_slice(alloc, goal.as_bytes())
+    format!(in alloc; "m({first},B)")
 }
 
 // The script that asks for a goal's facts, deletes each third of them, and asks again.
-fn script_with(alloc: Global, goal: &[u8]) -> Result<Vec<u8>, AllocError>
-    ensures { IfOk result (λ text. text.items ≡ script_with goal.now) }
+fn script_with(alloc: Global, goal: &str) -> Result<String, AllocError>
+    ensures { IfOk result (λ text. string_bytes text ≡ script_with goal.now) }
 {
-    let mut text = Vec::from_slice(alloc, b":- budget(200000).\n?- ")?;
-    text.extend_from_slice(goal)?;
-    text.extend_from_slice(b".\n?- ")?;
-    text.extend_from_slice(goal)?;
-    text.extend_from_slice(b", 0 =:= B mod 3, delete_tuple(")?;
-    text.extend_from_slice(goal)?;
-    text.extend_from_slice(b").\n?- ")?;
-    text.extend_from_slice(goal)?;
-    text.extend_from_slice(b".\n")?;
-    Ok(text)
+    format!(in alloc;
+        ":- budget(200000).\n\
+        ?- {goal}.\n\
+        ?- {goal}, 0 =:= B mod 3, delete_tuple({goal}).\n\
+        ?- {goal}.\n"
+    )
 }

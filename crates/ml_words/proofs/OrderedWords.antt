@@ -86,7 +86,8 @@ module _ (image save : Option (List ℕ)) (rules : List ℕ) (scripts : List (Li
       asked_when (sessions_form threads) (word ∷ rest) rest _
       (taken_in_order word image save rules scripts (plain_option image p) (plain_option save q) (is_plain rules r) (all_plain scripts s) few)
       (all_found image save rules scripts r (plain_names scripts s))
-      ∙ few_asked threads (rules_place image save) places image save (omega (arith, few, many_places (length scripts) (rules_place image save + 1))) (word ∷ rest)
+      ∙ few_asked threads (rules_place image save) places image save
+      (omega (arith, few, many_places (length scripts) (rules_place image save + 1))) (word ∷ rest)
 
   pub in_order : (threads : Bool) → command_of (sessions_in_order threads image save rules scripts)
       ≡ Some (sessions threads (rules_place image save) (name_from 1 image) (name_from (1 + words_of_option image) save)
@@ -98,7 +99,8 @@ module _ (image save : Option (List ℕ)) (rules : List ℕ) (scripts : List (Li
 pub check_in_order : (rules image : List ℕ) → IsTrue (is_plain_name rules) → IsTrue (is_plain_name image)
     → command_of (codes "check" ∷ rules ∷ image ∷ []) ≡ Some (check 1 2)
 check_in_order rules image p q =
-    asked_when check_form (codes "check" ∷ rules ∷ image ∷ []) (rules ∷ image ∷ []) _ (check_taken (codes "check") rules image (is_plain rules p) (is_plain image q))
+    asked_when check_form (codes "check" ∷ rules ∷ image ∷ []) (rules ∷ image ∷ []) _
+    (check_taken (codes "check") rules image (is_plain rules p) (is_plain image q))
     (more_names (rules ∷ image ∷ []) (one_name p (one_name q no_name)) 1 never never [])
 
 -- a number of `make` begins with a digit

@@ -67,15 +67,18 @@ unfolding clap_on_literals
 save_second i s rest p =
     let rows = row (codes "image") (i ∷ []) ∷ [] in
     then top _ (standing (held rows (codes "save") []) (option (codes "save")) 1) _ _ (s ∷ rest) _
-    (one_word top (standing (before_rules (Some i) None) idle 1) (standing (held rows (codes "save") []) (option (codes "save")) 1) (codes "--save") (s ∷ rest) refl refl)
+    (one_word top (standing (before_rules (Some i) None) idle 1) (standing (held rows (codes "save") []) (option (codes "save")) 1)
+    (codes "--save") (s ∷ rest) refl refl)
     (plain_word_leads top (held rows (codes "save") []) (option (codes "save")) 1 (standing (before_rules (Some i) (Some s)) idle 1) s rest p refl refl)
 
 options : (image save : Option Text) (rest : List Text) → PlainOption image → PlainOption save
-    → Leads top (walk_from nothing_held) (option_before (codes "--image") image (option_before (codes "--save") save rest)) (standing (before_rules image save) idle 1) rest
+    → Leads top (walk_from nothing_held) (option_before (codes "--image") image (option_before (codes "--save") save rest))
+    (standing (before_rules image save) idle 1) rest
 options None None rest p q = record { faults = refl; walks = refl }
 options (Some i) None rest p q = image_first i rest p
 options None (Some s) rest p q = save_first s rest q
-options (Some i) (Some s) rest p q = then top _ (standing (before_rules (Some i) None) idle 1) _ _ (codes "--save" ∷ s ∷ rest) _ (image_first i (codes "--save" ∷ s ∷ rest) p) (save_second i s rest q)
+options (Some i) (Some s) rest p q = then top _ (standing (before_rules (Some i) None) idle 1) _ _ (codes "--save" ∷ s ∷ rest) _
+    (image_first i (codes "--save" ∷ s ∷ rest) p) (save_second i s rest q)
 
 -- behind the rules
 abbrev behind_rules : Option Text → Option Text → Text → Held
@@ -106,7 +109,8 @@ pub data AllPlain : List Text → Type 0 where
   none_left : AllPlain []
   one_plain : {s : Text} {rest : List Text} → IsPlain s → AllPlain rest → AllPlain (s ∷ rest)
 
-more_scripts : (rows : List Row) (before scripts : List Text) → AllPlain scripts → Leads top (at_scripts rows before) scripts (at_scripts rows (before ++ scripts)) []
+more_scripts : (rows : List Row) (before scripts : List Text) → AllPlain scripts
+    → Leads top (at_scripts rows before) scripts (at_scripts rows (before ++ scripts)) []
 more_scripts rows before [] ps = record {
   faults = ap (λ (ss : List Text). walk_fault top [] (at_scripts rows ss) []) (sym (append-nil before));
   walks = ap (λ (ss : List Text). at_scripts rows ss) (sym (append-nil before));
@@ -172,6 +176,7 @@ all_words image save r (s ∷ scripts) p q pr (one_plain ps pss) le = record {
   right = end_at_scripts image save r s scripts le;
 }
 
-pub taken_in_order : (word : Text) (image save : Option Text) (r : Text) (scripts : List Text) → PlainOption image → PlainOption save → IsPlain r → AllPlain scripts
-    → length scripts ≤ 64 → fault_of sessions_app (word ∷ option_before (codes "--image") image (option_before (codes "--save") save (r ∷ scripts))) ≡ []
+pub taken_in_order : (word : Text) (image save : Option Text) (r : Text) (scripts : List Text) → PlainOption image → PlainOption save
+    → IsPlain r → AllPlain scripts → length scripts ≤ 64
+    → fault_of sessions_app (word ∷ option_before (codes "--image") image (option_before (codes "--save") save (r ∷ scripts))) ≡ []
 taken_in_order word image save r scripts p q pr ps le = faults_of_words sessions_app _ refl (all_words image save r scripts p q pr ps le)

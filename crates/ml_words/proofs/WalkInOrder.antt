@@ -57,7 +57,8 @@ options_found (Some i) (Some s) rest = refl
 
 pub all_found : (image save : Option (List ℕ)) (rules : List ℕ) (scripts : List (List ℕ)) → IsTrue (is_plain_name rules) → PlainNames scripts
     → walk_over (option_before (codes "--image") image (option_before (codes "--save") save (rules ∷ scripts)))
-    ≡ walk_at (given_from 1 image) (given_from (1 + words_of_option image) save) (rules_place image save ∷ places_from (rules_place image save + 1) (length scripts))
+    ≡ walk_at (given_from 1 image) (given_from (1 + words_of_option image) save)
+    (rules_place image save ∷ places_from (rules_place image save + 1) (length scripts))
 all_found image save rules scripts p ps =
     options_found image save (rules ∷ scripts)
     ∙ one_more_name (rules_place image save) rules scripts (given_from 1 image) (given_from (1 + words_of_option image) save) [] p

@@ -1,5 +1,5 @@
--- What words ask for. Each command has a form: `clap` takes the words, the walk finds the names that
--- the command asks for, each option at most once, and the limits hold.
+-- What words ask for. Each command has a form: `clap` takes the words, the walk finds the names
+-- that the command asks for, each option at most once, and the limits hold.
 use Rattle.std.specs.Prelude.{ℕ, ◌&&◌, Bool, true, false, List, [], ◌∷◌, Option, Some, None, length}
 use Rattle.std.specs.Prelude.{if◌then◌else◌, option_map, option_and_then, nat_le, codes}
 use Rattle.std.specs.Prelude.{slice_get, is_none}
@@ -12,8 +12,8 @@ use Rattle.ml_words.specs.Walks.{name_of_image, name_of_save, Walk, walk_over}
 use Rattle.ml_words.specs.Commands.{sessions_app, check_app, make_app, takes}
 
 -- What words ask for: sessions, which run in threads or not, by the place of the rules' name, the
--- names of the options, and the places of the scripts' names; a check, by the places of the names of
--- the rules and of the image; or a made run of this number.
+-- names of the options, and the places of the scripts' names; a check, by the places of the names
+-- of the rules and of the image; or a made run of this number.
 pub data Asked : Type 0 where
   sessions : Bool → ℕ → Option Name → Option Name → List ℕ → Asked
   check : ℕ → ℕ → Asked

@@ -47,5 +47,9 @@ fn value_of(digits: &str) -> Option<u32>
 fn within_limits(number: u32) -> Option<u32>
     ensures { result ≡ within_limits number }
 {
-    if 1 <= number && number <= MAX_MADE_FACTS { Some(number) } else { None }
+    if 1 <= number && number <= MAX_MADE_FACTS {
+        Some(number)
+    } else {
+        None
+    }
 }

@@ -76,7 +76,13 @@ fn sessions_of(
     if scripts.len() > MAX_SCRIPTS {
         return None;
     }
-    Some(Words::Sessions { threads, rules, image, save, scripts })
+    Some(Words::Sessions {
+        threads,
+        rules,
+        image,
+        save,
+        scripts,
+    })
 }
 
 // The rules and the image, and no more.
@@ -84,7 +90,10 @@ fn check_of(names: &[usize]) -> Option<Words>
     ensures { option_map words_seen result ≡ check_of names.now }
 {
     match names {
-        [rules, image] => Some(Words::Check { rules: *rules, image: *image }),
+        [rules, image] => Some(Words::Check {
+            rules: *rules,
+            image: *image,
+        }),
         _ => None,
     }
 }

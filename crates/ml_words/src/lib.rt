@@ -12,10 +12,12 @@ mod form;
 mod laws;
 mod limits;
 mod named;
+#[cfg(test)]
+mod tests;
 mod walk;
 mod words;
 
 pub use laws::words_in_order_are_of_the_form;
-pub use limits::{MAX_MADE_FACTS, MAX_MADE_DIGITS, MAX_SCRIPTS, limits_of_words};
+pub use limits::{MAX_MADE_DIGITS, MAX_MADE_FACTS, MAX_SCRIPTS, limits_of_words};
 pub use named::Named;
 pub use words::{Words, WordsStop, read_words};

@@ -93,7 +93,12 @@ impl Walk {
     pub fn start(alloc: Global) -> Walk
         ensures { walk_seen result ≡ walk_start }
     {
-        Walk { next: Next::AnyWord, image: Given::Never, save: Given::Never, names: Vec::new(alloc) }
+        Walk {
+            next: Next::AnyWord,
+            image: Given::Never,
+            save: Given::Never,
+            names: Vec::new(alloc),
+        }
     }
 
     /// Whether no option waits for its name.

@@ -22,7 +22,10 @@ pub enum Words {
         scripts: Vec<usize>,
     },
     /// `check`: the places of the names of the rules and of the image.
-    Check { rules: usize, image: usize },
+    Check {
+        rules: usize,
+        image: usize,
+    },
     /// `make`, with its number, which is 1 to 20,000.
     Make(u32),
 }

@@ -32,7 +32,7 @@ fn words_of_sessions_are_read(rt: HostRuntime) -> Result<(), Fail> {
             assert_eq!(rt; save, Some(Named { word: 2, from: 7 }));
             assert!(rt; scripts.as_slice() == [3, 7, 8].as_slice());
         }
-        _ => assert!(rt; false),
+        _other => assert!(rt; false),
     }
     Ok(())
 }

@@ -1,0 +1,6 @@
+pub mod WordsInTurn
+pub mod PlainWords
+pub mod TakenInOrder
+pub mod WalkInOrder
+pub mod OrderedWords
+pub mod TakenShort

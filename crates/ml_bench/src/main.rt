@@ -4,9 +4,7 @@
 #![tactic(auto)]
 
 mod append;
-mod compare;
 mod copy;
-mod evaluate;
 mod fill;
 mod ground;
 mod insert;
@@ -21,9 +19,7 @@ mod tuples;
 mod unify;
 
 use append::append;
-use compare::compare;
 use copy::copy;
-use evaluate::evaluate;
 use fill::fill;
 use ground::ground;
 use insert::insert;
@@ -72,8 +68,6 @@ fn run_work(alloc: Global, work: &str, count: u32) -> Result<Option<bool>, Alloc
         "unify" => Ok(Some(unify(alloc, count)?)),
         "ground" => Ok(Some(ground(alloc, count)?)),
         "copy" => Ok(Some(copy(alloc, count)?)),
-        "compare" => Ok(Some(compare(alloc, count)?)),
-        "evaluate" => Ok(Some(evaluate(alloc, count)?)),
         "read" => Ok(Some(read(alloc, count)?)),
         "rules" => Ok(Some(rules(alloc, count)?)),
         "fill2" => Ok(Some(fill(alloc, Width::Two, count)?)),
@@ -120,9 +114,7 @@ fn tell_regions(
 // Tells what the words may be.
 fn usage(rt: &HostRuntime) -> io::Result<ExitCode> {
     println!(rt; "ml_bench WORK N, where WORK is one of")?;
-    println!(rt;
-        "unify ground append copy compare evaluate read rules fill2 fill3 insert2 insert3"
-    )?;
+    println!(rt; "unify ground append copy read rules fill2 fill3 insert2 insert3")?;
     println!(rt; "match2none match2first match2second match2both")?;
     println!(rt; "match3none match3first match3second match3both")?;
     println!(rt; "regions2none regions2first regions2second regions2both")?;

@@ -2,7 +2,6 @@
 ghost use Rattle.std.specs.Prelude.{◌≡◌, ◌<◌, OnOk};
 ghost use Rattle.ml_heap.specs.Changes.{cell_count};
 
-use ml_builtin::{Binary, Outcome, Plain, Relation, run_builtin};
 use ml_heap::{Heap, Ref, TreeStop};
 use std::alloc::AllocError;
 
@@ -28,18 +27,4 @@ pub fn copy_and_undo(heap: &mut Heap, at: Ref) -> Result<(), TreeStop>
     heap.store_tree(&term)?;
     heap.undo_to(mark);
     Ok(())
-}
-
-/// Calls `==` on two cells and undoes it. The heap is then as it was.
-pub fn compare_and_undo(heap: &mut Heap, a: Ref, b: Ref) -> Result<bool, AllocError>
-    requires a_inside { a < cell_count heap.old }
-    requires b_inside { b < cell_count heap.old }
-    ensures { OnOk result (heap.new ≡ heap.old) }
-{
-    let mark = heap.mark();
-    let args = [a, b];
-    let equal = Plain::Two(Binary::Order(Relation::Equal));
-    let outcome = run_builtin(heap, equal, &args)?;
-    heap.undo_to(mark);
-    Ok(matches!(outcome, Outcome::Succeeded))
 }

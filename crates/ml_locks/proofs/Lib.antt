@@ -1,0 +1,2 @@
+pub mod StoredModes
+pub mod Anyone

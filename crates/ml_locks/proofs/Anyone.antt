@@ -46,3 +46,7 @@ tells_nobody g e = (λ t. absurd (no t), λ x. absurd (none (g x.0) (e x.0) x.1)
     none : (o : Option Mode) → o ≡ None → is_some o ≡ true → ⊥
     none None e t = cc
     none (Some m) e t = cc
+
+pub none_is_some : (o : Option Mode) → o ≡ None → IsSome o → ⊥
+none_is_some None e h = cc
+none_is_some (Some m) e h = cc

@@ -1,2 +1,4 @@
-pub mod StoredModes
 pub mod Anyone
+pub mod Released
+pub mod StoredModes
+pub mod TableModes

@@ -129,3 +129,34 @@ held_stored m ordered s u = get-from_entries slot_cmp_total (flat_map entry_slot
 pub held_found : (m : BTreeMap BitList Holders) → IsOrdered bits_cmp m → (f : FileModes) → file_modes m.entries ≡ f → (u : List Bool) (found : Option Holders) →
     found ≡ stored_at u m.entries → (s : ℕ) → held_in f s u ≡ mode_among found s
 held_found m ordered f is u found e s = ap (λ g. held_in g s u) (sym is) ∙ (held_stored m ordered s u ∙ ap (λ o. mode_among o s) (sym e))
+
+over_found : (b : Bool) (w found : Option Holders) (s : ℕ) → mode_among (cond b w found) s ≡ cond b (mode_among w s) (mode_among found s)
+over_found true w found s = refl
+over_found false w found s = refl
+
+-- what is held after the map was changed at a prefix
+pub held_updated : (m n : BTreeMap BitList Holders) → IsOrdered bits_cmp m → IsOrdered bits_cmp n → (f : FileModes) → file_modes m.entries ≡ f → (k : BitList) (w : Option Holders) →
+    UpdatesBy bits_cmp (bits_cmp k) m n w → (s : ℕ) (u : List Bool) → held_in (file_modes n.entries) s u ≡ cond (same_bits u k.bits) (mode_among w s) (held_in f s u)
+held_updated m n ordered_m ordered_n f is k w h s u =
+    let q : BitList = record { bits = u; room = 0 } in
+    held_stored n ordered_n s u
+    ∙ (ap (λ o. mode_among o s) (h.0 q)
+    ∙ (over_found (is_eq (bits_cmp k q)) w (stored_at u m.entries) s
+    ∙ (ap (λ b. cond b (mode_among w s) (mode_among (stored_at u m.entries) s)) ((eq_by_cmp_equiv (lists_total bool_cmp_total)).symm k.bits u)
+    ∙ ap (cond (same_bits u k.bits) (mode_among w s)) (sym (held_stored m ordered_m s u) ∙ ap (λ g. held_in g s u) is))))
+
+is_equal : (o : Ordering) → is_eq o ≡ true → o ≡ Equal
+is_equal Less e = cc
+is_equal Equal e = refl
+is_equal Greater e = cc
+
+-- prefixes that pass the test are the same
+pub same_prefix : (u v : List Bool) → same_bits u v ≡ true → u ≡ v
+same_prefix u v e = bits_exact u v (is_equal _ e)
+
+-- one holder's part of a change at a prefix
+pub at_holder : (a b : Bool) (m x y : Option Mode) → (b ≡ true → x ≡ y) → cond b (cond a m x) y ≡ cond (a && b) m y
+at_holder true true m x y e = refl
+at_holder true false m x y e = refl
+at_holder false true m x y e = e refl
+at_holder false false m x y e = refl

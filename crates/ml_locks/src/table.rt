@@ -1,6 +1,7 @@
 //! The table of the locks of all files.
-ghost use Rattle.std.specs.Prelude.{◌≡◌, ◌<◌, ◌↔◌, ℕ, IfOk, IsSome, IsTrue, length, replicate};
+ghost use Rattle.std.specs.Prelude.{◌≡◌, ◌<◌, ◌↔◌, ℕ, IfOk, IsSome, IsTrue, OnErr, OnOk, Some, length, replicate};
 ghost use Rattle.std.specs.FinMap as map;
+ghost use Rattle.ml_locks.specs.Changes.{IsForgotten, IsInherited, IsReleased, IsWeakened};
 ghost use Rattle.ml_locks.specs.Modes.{mode_of};
 
 use crate::OutOfMemory;
@@ -61,5 +62,47 @@ impl Table {
     {
         let file = &self.files[pred as usize];
         file.is_held(prefix)
+    }
+    /// Nobody holds a unit any more. It takes no memory.
+    pub fn forget(&mut self, pred: u32, prefix: &Bits)
+        requires { pred < length self.old }
+        ensures { IsForgotten self.old pred prefix.now.bits self.new }
+    {
+        let file = &mut self.files[pred as usize];
+        file.forget(prefix);
+    }
+
+    /// A session holds nothing any more. It takes no memory.
+    pub fn release(&mut self, session: u32)
+        ensures { IsReleased self.old session self.new }
+    {
+        for pred in 0..self.files.len() {
+            let file = &mut self.files[pred];
+            file.release(session);
+        }
+    }
+
+    /// A session that holds a unit holds it in this mode, or not at all where there is none. It
+    /// takes no memory.
+    pub fn weaken(&mut self, session: u32, pred: u32, prefix: &Bits, mode: Option<Mode>)
+        requires there { pred < length self.old }
+        requires held { IsSome (mode_of self.old session pred prefix.now.bits) }
+        requires weaker { mode ≡ Some Mode.X →
+            mode_of self.old session pred prefix.now.bits ≡ Some Mode.X }
+        ensures { IsWeakened self.old session pred prefix.now.bits mode self.new }
+    {
+        let file = &mut self.files[pred as usize];
+        file.weaken(session, prefix, mode);
+    }
+
+    /// Who holds the first unit of a declaration holds the second one too, in the same mode, and
+    /// nobody else does. After a refusal all is as before.
+    pub fn inherit(&mut self, pred: u32, from: &Bits, to: &Bits) -> Result<(), OutOfMemory>
+        requires { pred < length self.old }
+        ensures ok { OnOk result (IsInherited self.old pred from.now.bits to.now.bits self.new) }
+        ensures err { OnErr result (self.new ≡ self.old) }
+    {
+        let file = &mut self.files[pred as usize];
+        file.inherit(from, to)
     }
 }

@@ -1,0 +1,4 @@
+pub mod Anyone
+pub mod Released
+pub mod StoredModes
+pub mod TableModes

@@ -14,6 +14,7 @@ pub mod ComingItems
 pub mod KeyableItems
 pub mod RegionSettling
 pub mod SettleSteps
+pub mod FreeSettling
 pub mod KeyOrderedTuples
 pub mod FileLoads
 pub mod LoadedFiles

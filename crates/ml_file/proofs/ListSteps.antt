@@ -123,15 +123,15 @@ with_first kind item (x ∷ list) all = cond-true (is_lt (item_cmp kind item x))
 
 -- ---- without a key
 
-has_not : (x : Item) (key : List Bool) → not (same_bits x.key.bits key) ≡ true → x.key.bits ≢ key
+pub has_not : (x : Item) (key : List Bool) → not (same_bits x.key.bits key) ≡ true → x.key.bits ≢ key
 has_not x key h e = both_ways (same_bits x.key.bits key) (not-true (same_bits x.key.bits key) h)
     (subst (λ k. same_bits x.key.bits k ≡ true) e (same_bits_itself x.key.bits))
 
-is_not : (x : Item) (key : List Bool) → x.key.bits ≢ key → not (same_bits x.key.bits key) ≡ true
+pub is_not : (x : Item) (key : List Bool) → x.key.bits ≢ key → not (same_bits x.key.bits key) ≡ true
 is_not x key d = not_from_false (same_bits x.key.bits key) (false_from_ne_true (same_bits x.key.bits key) (λ e. d (same_bits_equal x.key.bits key e)))
 
 -- what a filter keeps
-kept_from : (test : Item → Bool) (list : List Item) (z : Item) → Contains (filter test list) z → Contains list z × (test z ≡ true)
+pub kept_from : (test : Item → Bool) (list : List Item) (z : Item) → Contains (filter test list) z → Contains list z × (test z ≡ true)
 kept_from test [] z h = absurd (omega (arith, h.1))
 kept_from test (x ∷ list) z h = tested (test x) refl (filter test list) (kept_from test list z) h
   where
@@ -143,7 +143,7 @@ kept_from test (x ∷ list) z h = tested (test x) refl (filter test list) (kept_
     ]
     tested false is rest later h = let k = later h in (contains_later x z list k.0, k.1)
 
-kept_in : (test : Item → Bool) (list : List Item) (z : Item) → Contains list z → test z ≡ true → Contains (filter test list) z
+pub kept_in : (test : Item → Bool) (list : List Item) (z : Item) → Contains list z → test z ≡ true → Contains (filter test list) z
 kept_in test [] z h t = absurd (omega (arith, h.1))
 kept_in test (x ∷ list) z h t = tested (test x) refl (filter test list) (λ there. kept_in test list z there t)
   where
@@ -180,7 +180,7 @@ list_without kind before item after list more gone is =
 -- ---- an insert
 
 -- an item with a key and a number of its own is equal to no other
-own_place : (kind : Kind) (items : List Item) (item : Item) → All (λ (x : Item). x.key.bits ≢ item.key.bits) items →
+pub own_place : (kind : Kind) (items : List Item) (item : Item) → All (λ (x : Item). x.key.bits ≢ item.key.bits) items →
     (kind ≡ Clauses → All (λ (x : Item). x.number ≢ item.number) items)
     → (x : Item) → Contains items x → item_cmp kind x item ≢ Equal
 own_place Relation items item absent numbered x there e = All-contains (λ (y : Item). y.key.bits ≢ item.key.bits) items x absent there (equal_keys x item e)

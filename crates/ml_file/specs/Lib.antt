@@ -2,8 +2,10 @@ pub mod PlainList
 pub mod ListSteps
 pub mod Files
 pub mod Marking
+pub mod Keeping
 pub mod Hits
 pub mod Adding
 pub mod Inserting
 pub mod Settled
+pub mod SettledUnless
 pub mod Stores

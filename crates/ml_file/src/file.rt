@@ -9,6 +9,7 @@ mod insert;
 mod mark;
 mod put;
 mod settle_all;
+mod settle_unless;
 
 use ml_bits::{Bits, OutOfMemory};
 use ml_region::{Item, Regions, SortedDir};
@@ -77,6 +78,13 @@ impl BangFile {
         ensures { result.now ≡ self.now.decl }
     {
         &self.decl
+    }
+
+    /// The regions, to be read.
+    pub fn regions(&self) -> &Regions<SortedDir>
+        ensures { result.now.regions ≡ self.now.regions }
+    {
+        &self.regions
     }
 
     /// How many regions there are. They are well placed, no one has over 24 items, and each item is

@@ -120,7 +120,7 @@ home_by regions key i owner = subst (IsHome (region_prefixes regions) key) (pref
 -- ---- a region is split
 
 -- the key at a place of a region's keys and a further one is at home there
-home_among : (regions : List Region) (i : ℕ) (key other : List Bool) → IsWellPlaced regions → i < length regions → IsNewTo regions i key →
+pub home_among : (regions : List Region) (i : ℕ) (key other : List Bool) → IsWellPlaced regions → i < length regions → IsNewTo regions i key →
     Contains (keys_at regions i ++ key ∷ []) other → IsHome (region_prefixes regions) other (region_at regions i).prefix
 home_among regions i key other well h new there = elim (Contains-append_cases (keys_at regions i) (key ∷ []) other there) [
   | inl c ↦ home_by regions other i (well.owned i other h c)

@@ -3,4 +3,5 @@ pub mod Prefixes
 pub mod Listing
 pub mod Regions
 pub mod Changes
+pub mod Keeping
 pub mod inside

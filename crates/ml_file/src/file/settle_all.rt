@@ -14,7 +14,7 @@ use ml_region::{Directory, Regions};
 use ml_split::{MIN_REGION_ITEMS, settle};
 
 // Whether a region is thin.
-fn is_thin<D: Directory>(regions: &Regions<D>, i: usize) -> bool
+pub(super) fn is_thin<D: Directory>(regions: &Regions<D>, i: usize) -> bool
     requires { i < length regions.now.regions }
     ensures { result ≡ is_thin (region_at regions.now.regions i) }
 {

@@ -1,6 +1,7 @@
 //! One item that comes, goes or is marked.
 ghost use Rattle.std.specs.Prelude.{◌≡◌, ◌<◌, ℕ, length, MatchOption};
 ghost use Rattle.ml_region.specs.Changes.{IsMarked, IsPut, IsTaken};
+ghost use Rattle.ml_region.specs.Keeping.{IsCommittedAt};
 ghost use Rattle.ml_region.specs.Prefixes.{IsOwner};
 ghost use Rattle.ml_region.specs.Regions.{HasKey, HasNoKey, IsApart, items_at, region_prefixes};
 
@@ -49,6 +50,23 @@ impl<D: Directory> Regions<D> {
         let slot = self.dir.owner(key);
         match self.pages[slot].find(key) {
             Some(j) => self.pages[slot].mark(j, committed, id),
+            None => unreachable!(),
+        }
+    }
+
+    /// Marks the item that has a key as committed by the entry at a place of the history. The
+    /// number of its change stays. It takes no memory.
+    pub fn keep(&mut self, key: &Bits, place: u32)
+        requires { HasKey self.old.regions key.now.bits }
+        ensures regions { IsCommittedAt self.old.regions key.now.bits place self.new.regions }
+        ensures room { self.new.room ≡ self.old.room }
+    {
+        let slot = self.dir.owner(key);
+        match self.pages[slot].find(key) {
+            Some(j) => {
+                let change = self.pages[slot].item(j).id.change;
+                self.pages[slot].mark(j, true, Id { place, change });
+            }
             None => unreachable!(),
         }
     }

@@ -1,0 +1,3 @@
+pub mod PartLists
+pub mod ToldPrefixes
+pub mod OwnerItems

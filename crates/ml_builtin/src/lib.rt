@@ -20,8 +20,6 @@ mod raise;
 mod relation;
 mod run;
 mod seen_types;
-#[cfg(test)]
-mod tests;
 mod type_test;
 mod unify;
 mod univ;

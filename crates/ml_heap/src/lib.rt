@@ -19,8 +19,6 @@ mod occurs;
 mod place;
 mod stop;
 mod store;
-#[cfg(test)]
-mod tests;
 mod trees;
 mod unify;
 

@@ -13,8 +13,6 @@ mod key;
 pub mod key_laws;
 mod limits;
 mod pattern;
-#[cfg(test)]
-mod tests;
 
 pub use key::key_of;
 pub use limits::{CODE_BITS, MAX_KEY_BITS, MAX_KEYED_PLACES, MAX_NODE_BYTES, VARIABLE_CODE};

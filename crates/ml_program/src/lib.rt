@@ -12,8 +12,6 @@ mod loaded;
 mod names;
 mod procedure;
 mod tables;
-#[cfg(test)]
-mod tests;
 
 pub use link::{ControlCall, Link, StoreCall};
 pub use links::Links;

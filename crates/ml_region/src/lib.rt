@@ -22,8 +22,6 @@ mod prefixes;
 mod regions;
 mod searches;
 mod sorted_dir;
-#[cfg(test)]
-mod tests;
 
 pub use directory::{Directory, Slot};
 pub use item::{Id, Item};

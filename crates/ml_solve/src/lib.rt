@@ -14,8 +14,6 @@ mod goal_end;
 mod machine;
 mod run;
 mod search;
-#[cfg(test)]
-mod tests;
 
 pub use budget::Budget;
 pub use found::Found;

@@ -16,8 +16,6 @@ mod goal;
 mod predicate;
 mod retract;
 mod sized;
-#[cfg(test)]
-mod tests;
 mod tuples;
 
 pub use calls::store_goal;

@@ -8,8 +8,6 @@
 
 mod args;
 pub mod bytes_laws;
-#[cfg(test)]
-mod bytes_tests;
 mod canonical;
 mod canonical_size;
 mod code;
@@ -29,8 +27,6 @@ mod spelling;
 mod stop;
 mod tags;
 mod term;
-#[cfg(test)]
-mod tests;
 pub mod unification_laws;
 mod valid;
 pub mod worked_rows;

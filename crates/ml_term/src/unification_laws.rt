@@ -155,13 +155,3 @@ pub fn renaming_numbers_anew()
     ensures width { (next : ℕ) (t : Tree) → width (rename next t) ≡ width t }
     ensures nodes { (next : ℕ) (t : Tree) → nodes (rename next t) ≡ nodes t }
 {}
-
-#[cfg(test)]
-mod tests {
-    use super::*;
-
-    #[test]
-    fn runs_of_any_types_go_by_turns() {
-        runs_go_by_turns::<u64, bool>();
-    }
-}

@@ -12,8 +12,6 @@ mod form;
 mod laws;
 mod limits;
 mod named;
-#[cfg(test)]
-mod tests;
 mod walk;
 mod words;
 

@@ -17,8 +17,6 @@ mod numbers;
 mod piece;
 mod stop;
 mod terms;
-#[cfg(test)]
-mod tests;
 
 pub use entry_line::session_line;
 pub use limits::MAX_ANSWER_BYTES;

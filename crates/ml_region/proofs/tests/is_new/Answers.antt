@@ -1,8 +1,0 @@
-use Rattle.std.proofs.Common.{◌∙◌, below_more}
-use Rattle.ml_region.proofs.KeyOrder.{not_equal_from_test}
-use Rattle.ml_region.proofs.tests.is_new.Goals as goal
-
-pub loop-m-preserved : goal.loop-m-preserved
-loop-m-preserved c =
-    below_more _ _ c.loop-m.invariant (λ e. not_equal_from_test c.cmp.result c.is_eq.result c.is_eq.ensures c.if-is_eq.false
-    (c.cmp.ensures.equal.1 (c.prefix.ensures.bits ∙ e)))

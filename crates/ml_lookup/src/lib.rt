@@ -12,6 +12,8 @@ pub mod list_laws;
 mod next;
 mod patterns;
 mod splits;
+#[cfg(test)]
+mod tests;
 
 pub use homes::{Look, home, look_up};
 pub use next::next_after;

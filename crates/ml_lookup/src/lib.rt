@@ -9,9 +9,13 @@
 mod homes;
 pub mod laws;
 pub mod list_laws;
+mod next;
 mod patterns;
 mod splits;
+#[cfg(test)]
+mod tests;
 
 pub use homes::{Look, home, look_up};
+pub use next::next_after;
 pub use patterns::needed;
 pub use splits::would_split;

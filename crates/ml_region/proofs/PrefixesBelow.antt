@@ -12,10 +12,10 @@ use Rattle.ml_key.proofs.BitBeginnings.{shorter_holds}
 use Rattle.ml_term.specs.Keys.{key_cmp}
 use Rattle.ml_term.specs.Patterns.{may_hold}
 use Rattle.ml_region.specs.Prefixes.{bits_at, IsRising}
-use Rattle.ml_region.specs.inside.Compatible.{IsEndOfBelow}
+use Rattle.ml_region.specs.Below.{IsEndOfBelow}
 
 -- what comes between a list and one that it begins, it begins too
-between : (x y z : List Bool) → key_cmp x y ≡ Less → key_cmp y z ≡ Less → Begins x z → Begins x y
+pub between : (x y z : List Bool) → key_cmp x y ≡ Less → key_cmp y z ≡ Less → Begins x z → Begins x y
 between [] y z e f b = refl
 between (a ∷ x) [] z e f b = let g : Greater ≡ Less = e in cc
 between (a ∷ x) (c ∷ y) [] e f b = let g : Greater ≡ Less = f in cc

@@ -4,4 +4,5 @@ pub mod Listing
 pub mod Regions
 pub mod Changes
 pub mod Keeping
+pub mod Below
 pub mod inside

@@ -1,4 +1,3 @@
 pub mod Kept
 pub mod Stored
-pub mod Compatible
 pub mod Moves

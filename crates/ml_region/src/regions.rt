@@ -2,7 +2,7 @@
 ghost use Rattle.std.specs.Prelude.{◌≡◌, ◌<◌, ◌≤◌, [], ◌∷◌, length, max, slice_index_or, IfOk};
 ghost use Rattle.std.specs.Prelude.{MatchOption, OnErr, OnOk};
 ghost use Rattle.ml_region.specs.Listing.{only_root, prefixes_of};
-ghost use Rattle.ml_region.specs.Prefixes.{AreRooted, IsOwner, IsParent};
+ghost use Rattle.ml_region.specs.Prefixes.{AreRooted, IsLastUpTo, IsOwner, IsParent};
 ghost use Rattle.ml_region.specs.Regions.{HasNoKey, IsFound, IsWellPlaced, empty_region, items_at};
 ghost use Rattle.ml_region.specs.Regions.{region_at, region_prefixes};
 
@@ -17,7 +17,7 @@ use crate::item::Item;
 use crate::page::Page;
 use crate::places::slot_of;
 use crate::prefixes::DirectoryPrefixes;
-use crate::searches::owner_within;
+use crate::searches::{last_up_to, owner_within};
 use ml_bits::{Bits, OutOfMemory};
 use std::alloc::Global;
 use std::marker::Model;
@@ -137,6 +137,13 @@ impl<D: Directory> Regions<D> {
         ensures { IsOwner (region_prefixes self.now.regions) key.now.bits result }
     {
         owner_within(&self.prefixes(), key, key.len())
+    }
+
+    /// The last region in the order of prefixes whose prefix doesn't come after a key.
+    pub fn last_not_after(&self, key: &Bits) -> usize
+        ensures { IsLastUpTo (region_prefixes self.now.regions) key.now.bits result }
+    {
+        last_up_to(&self.prefixes(), key, key.len())
     }
 
     /// The parent of a region: the one with the longest shorter prefix that begins its own. The

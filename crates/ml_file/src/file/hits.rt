@@ -78,6 +78,17 @@ impl BangFile {
         Ok(())
     }
 
+    /// Whether a pattern meets an item that the file may have: whether the item's head unifies with
+    /// it when renamed apart.
+    pub fn meets(&self, head: &Term, item: &Item) -> Result<bool, OutOfMemory>
+        requires head { IsTrue (is_valid (seen head.now)) }
+        requires item { IsTrue (is_allowed self.now.decl (seen item.now.term)) }
+        ensures { IfOk result (λ is.
+            is ≡ is_hit self.now.decl.kind (seen head.now) (seen item.now.term)) }
+    {
+        is_hit(self.alloc, &self.decl, head, item)
+    }
+
     /// The items that a pattern meets, each once and in their order: those whose heads unify with
     /// it when renamed apart. A clause's head is that of its term, and a tuple is its own. The
     /// pattern is of the declared predicate and has at most 4,096 nodes.

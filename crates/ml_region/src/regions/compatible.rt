@@ -2,7 +2,7 @@
 ghost use Rattle.std.specs.Prelude.{◌≡◌, ◌+◌, ◌<◌, ◌≤◌, ◌↔◌, ℕ, IsTrue, IfOk, length, map};
 ghost use Rattle.std.specs.List.{filter};
 ghost use Rattle.ml_bits.specs.BitList.{BitList, Begins};
-ghost use Rattle.ml_region.specs.inside.Compatible.{IsEndOfBelow};
+ghost use Rattle.ml_region.specs.Below.{IsEndOfBelow};
 ghost use Rattle.ml_region.specs.Listing.{IsListing, prefix_at, prefixes_of};
 ghost use Rattle.ml_region.specs.Regions.{region_prefixes};
 ghost use Rattle.ml_term.specs.Patterns.{may_hold};
@@ -46,8 +46,9 @@ fn end_of_begun<D: Directory>(dir: &D, len: usize, prefix: &Bits, i: usize) -> u
 }
 
 impl<D: Directory> Regions<D> {
-    // The place behind the last region whose prefix begins with that of a region.
-    fn end_of_below(&self, i: usize) -> usize
+    /// The place behind the last region whose prefix begins with that of a region. All between the
+    /// two begin with it.
+    pub fn end_of_below(&self, i: usize) -> usize
         requires { i < length self.now.regions }
         ensures { IsEndOfBelow (region_prefixes self.now.regions) i result }
     {

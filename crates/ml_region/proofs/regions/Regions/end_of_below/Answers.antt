@@ -1,6 +1,6 @@
 use Rattle.std.proofs.Common.{◌≡◌, ◌<◌, List, length, sym, ap, ◌∙◌, subst, arith}
 use Rattle.std.specs.Prelude.{vec_capacity}
-use Rattle.ml_region.specs.inside.Compatible.{IsEndOfBelow}
+use Rattle.ml_region.specs.Below.{IsEndOfBelow}
 use Rattle.ml_region.specs.Listing.{Entry}
 use Rattle.ml_region.specs.Regions.{Region, RegionList, region_at, region_prefixes}
 use Rattle.ml_region.specs.inside.Stored.{regions_of}

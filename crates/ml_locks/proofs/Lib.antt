@@ -1,4 +1,6 @@
 pub mod Anyone
+pub mod FirstUnit
+pub mod Oldest
 pub mod Released
 pub mod StoredModes
 pub mod TableModes

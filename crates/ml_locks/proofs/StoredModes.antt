@@ -1,6 +1,6 @@
 -- The modes that the entries of one file's map stand for, read off the map's own entries.
-use Rattle.std.proofs.Common.{◌≡◌, ℕ, Bool, true, false, cond, List, [], ◌∷◌, ◌++◌, map, refl, sym, ap, ◌∙◌, subst, Some, None}
-use Rattle.std.specs.Prelude.{Option, ◌==◌, ◌&&◌, ◌||◌}
+use Rattle.std.proofs.Common.{◌≡◌, ℕ, Bool, true, false, cond, List, [], ◌∷◌, ◌++◌, map, refl, sym, ap, ◌∙◌, subst, Some, None, Ok, Err}
+use Rattle.std.specs.Prelude.{Option, ◌==◌, ◌&&◌, ◌||◌, Result, OnOk, OnErr}
 use Rattle.std.specs.Option.{option_and_then}
 use Rattle.std.specs.List.{flat_map, list_any, IsDistinct}
 use Rattle.std.specs.Map.{lookup, keys_of}
@@ -20,7 +20,8 @@ use Rattle.std.specs.FinMap.{IsAntisymmetric, get, find, get-from_entries, same_
 use Rattle.std.specs.BTreeMap.{BTreeMap, IsOrdered, UpdatesBy}
 use Rattle.ml_bits.specs.BitList.{BitList, bits_cmp, bits_cmp_total}
 use Rattle.ml_desk.specs.declared.mode.Mode.{Mode}
-use Rattle.ml_desk.specs.declared.mode.Mode.TheVariants.{S}
+use Rattle.ml_desk.specs.declared.mode.Mode.TheVariants.{S, X}
+use Rattle.ml_locks.specs.Changes.{stronger}
 use Rattle.ml_locks.specs.Modes.{slot_cmp, FileModes, held_in, same_bits}
 use Rattle.ml_locks.specs.inside.Stored.{holder_mode, held_slots, entry_slots, file_modes}
 use Rattle.ml_locks.specs.declared.holders.Holders.{Holders}
@@ -160,3 +161,73 @@ at_holder true true m x y e = refl
 at_holder true false m x y e = refl
 at_holder false true m x y e = e refl
 at_holder false false m x y e = refl
+
+same_sessions : (k s : ℕ) → (k == s) ≡ (s == k)
+same_sessions k s = grind (arith, nat_tests)
+
+-- a session alone at a prefix that nobody held
+pub one_holder : (k s : ℕ) (b : Bool) (m : Mode) (before : Option Mode) → (b ≡ true → before ≡ None) → cond b (cond (k == s) (Some m) None) before ≡ cond ((s == k) && b) (Some m) before
+one_holder k s b m before e = ap (λ t. cond b (cond t (Some m) None) before) (same_sessions k s) ∙ at (s == k) b e
+  where
+    at : (t b : Bool) → (b ≡ true → before ≡ None) → cond b (cond t (Some m) None) before ≡ cond (t && b) (Some m) before
+    at true true e = refl
+    at true false e = refl
+    at false true e = sym (e refl)
+    at false false e = refl
+
+-- a holder's mode made stronger, as a part of a change at a prefix
+pub stronger_there : (a b : Bool) (x y : Option Mode) (f : Option Mode → Option Mode) → (b ≡ true → x ≡ y) → cond b (cond a (f x) x) y ≡ cond (a && b) (f y) y
+stronger_there true true x y f e = ap f (e refl)
+stronger_there true false x y f e = refl
+stronger_there false true x y f e = e refl
+stronger_there false false x y f e = refl
+
+-- nothing has changed at a prefix
+pub same_there : (b : Bool) (x y : Option Mode) → (b ≡ true → x ≡ y) → cond b x y ≡ y
+same_there true x y e = e refl
+same_there false x y e = refl
+
+pub ok_alike : {T E : Type 0} (r : Result T E) (P Q : Type 0) → (P → Q) → OnOk r P → OnOk r Q
+ok_alike (Ok t) P Q f p = f p
+ok_alike (Err e) P Q f p = p
+
+pub err_alike : {T E : Type 0} (r : Result T E) (P Q : Type 0) → (P → Q) → OnErr r P → OnErr r Q
+err_alike (Ok t) P Q f p = p
+err_alike (Err e) P Q f p = f p
+
+stronger_none : (m : Mode) → m ≡ stronger m None
+stronger_none S = refl
+stronger_none X = refl
+
+-- a mode that is the first at a prefix is the stronger one there
+pub first_there : (a b : Bool) (m : Mode) (x y : Option Mode) → x ≡ y → (b ≡ true → y ≡ None) → cond (a && b) (Some m) x ≡ cond (a && b) (Some (stronger m y)) y
+first_there true true m x y e f = ap Some (stronger_none m ∙ ap (stronger m) (sym (f refl)))
+first_there true false m x y e f = e
+first_there false b m x y e f = e
+
+same_number_itself : (k : ℕ) → (k == k) ≡ true
+same_number_itself k = grind (arith, nat_tests)
+
+numbers_alike : (s k : ℕ) → (s == k) ≡ true → s ≡ k
+numbers_alike s k e = grind (arith, nat_tests)
+
+pub two_true : (a b : Bool) → (a && b) ≡ true → (a ≡ true) × (b ≡ true)
+two_true true b e = (refl, e)
+two_true false b e = absurd (no e)
+  where
+    no : false ≡ true → ⊥
+    no e = cc
+
+-- a test of a session and a prefix passes at these alone
+pub at_slot : (s k : ℕ) (u v : List Bool) → ((s == k) && same_bits u v) ≡ true → (s ≡ k) × (u ≡ v)
+at_slot s k u v e = let p = two_true (s == k) (same_bits u v) e in (numbers_alike s k p.0, same_prefix u v p.1)
+
+-- and it passes there
+pub at_itself : (k : ℕ) (u : List Bool) (x y : Option Mode) → cond ((k == k) && same_bits u u) x y ≡ x
+at_itself k u x y = ap (λ b. cond (b && same_bits u u) x y) (same_number_itself k)
+    ∙ ap (λ b. cond b x y) ((eq_by_cmp_equiv (lists_total bool_cmp_total)).refl u)
+
+-- what is taken back is as before
+pub restored : (t : Bool) (b x y : Option Mode) → (t ≡ true → b ≡ y) → cond t b (cond t x y) ≡ y
+restored true b x y e = e refl
+restored false b x y e = refl

@@ -3,9 +3,14 @@ use Rattle.std.proofs.Common.{◌≡◌, ◌≢◌, ℕ, ◌<◌, ◌≤◌, ◌
 use Rattle.std.specs.Prelude.{Option, ◌==◌, ◌&&◌, slice_get, slice_set}
 use Rattle.std.specs.Option.{option_and_then}
 use Rattle.std.proofs.lemmas.Bool.Decides.{eqb_tells}
-use Rattle.std.proofs.lemmas.List.{get_or-set_same, get_or-set_other, length-set}
+use Rattle.std.proofs.lemmas.List.{set-get_or, get_or-set_same, get_or-set_other, length-set}
 use Rattle.std.proofs.lemmas.Option.{slice_get-get_or, slice_get_past, slice_get_read}
 use Rattle.ml_desk.specs.declared.mode.Mode.{Mode}
+use Rattle.ml_locks.specs.Changes.{is_needed, stronger}
+use Rattle.ml_locks.specs.Requests.{Leaves, modes_at}
+use Rattle.ml_locks.specs.inside.Waiting.{LeavesIn}
+use Rattle.ml_locks.specs.declared.asked.Asked.{Asked}
+use Rattle.ml_locks.specs.declared.asked.Asked.TheVariants.{Granted, Wait, Died, OutOfMemory}
 use Rattle.ml_locks.specs.Modes.{FileModes, Locks, held_in, mode_of}
 
 module _ (t : Locks) (p : ℕ) (f g : FileModes) (there : p < length t) (is : f ≡ get_or t p f) where
@@ -72,3 +77,21 @@ module _ (t : Locks) (p : ℕ) (f g : FileModes) (there : p < length t) (is : f 
     where
       differ : (d == p) ≡ true → (d == p) ≡ false → ⊥
       differ x y = cc
+
+  -- what a session holds of the file is what it holds of that declaration
+  pub held_at : ◌≡◌ {A = ℕ → List Bool → Option Mode} (held_in f) (modes_at t p)
+  held_at = λ i s u. sym (held_there s u) i
+
+  unchanged : g ≡ f → slice_set t p g ≡ t
+  unchanged e = ap (slice_set t p) (e ∙ is) ∙ set-get_or t p f
+
+  -- what an answer leaves of the file, as what it leaves of the table
+  pub left_there : (asker : ℕ) (us : List (List Bool)) (mode : Mode) (result : Asked) → LeavesIn f asker us mode result g → Leaves t asker p us mode result (slice_set t p g)
+  left_there asker us mode Granted h = record {
+    files = table_files;
+    modes = λ s d u. table_changed ((s == asker) && is_needed us u) (Some (stronger mode (held_in f s u))) (Some (stronger mode (mode_of t s d u))) s d u
+        (λ b. ap (λ o. Some (stronger mode o)) (sym (held_where s d u b))) (h s u);
+  }
+  left_there asker us mode (Wait holder) e = unchanged e
+  left_there asker us mode (Died death) e = unchanged e
+  left_there asker us mode OutOfMemory e = unchanged e

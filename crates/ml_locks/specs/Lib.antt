@@ -1,3 +1,4 @@
 pub mod Changes
 pub mod Modes
+pub mod Requests
 pub mod inside

@@ -6,9 +6,12 @@
 //! type. So no two sessions ever hold a unit where one of them may change it.
 #![tactic(auto)]
 
+mod asked;
 mod file_locks;
 mod holders;
 mod table;
+mod waiting;
 
+pub use asked::Asked;
 pub use ml_bits::OutOfMemory;
 pub use table::Table;

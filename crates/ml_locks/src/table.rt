@@ -3,8 +3,10 @@ ghost use Rattle.std.specs.Prelude.{◌≡◌, ◌<◌, ◌↔◌, ℕ, IfOk, Is
 ghost use Rattle.std.specs.FinMap as map;
 ghost use Rattle.ml_locks.specs.Changes.{IsForgotten, IsInherited, IsReleased, IsWeakened};
 ghost use Rattle.ml_locks.specs.Modes.{mode_of};
+ghost use Rattle.ml_locks.specs.Requests.{IsAnswered, Leaves, modes_at, prefixes_of};
 
 use crate::OutOfMemory;
+use crate::asked::Asked;
 use crate::file_locks::FileLocks;
 use ml_bits::Bits;
 use ml_desk::Mode;
@@ -63,6 +65,22 @@ impl Table {
         let file = &self.files[pred as usize];
         file.is_held(prefix)
     }
+    /// What a session that asks for some units of a declaration, in this mode, comes to. Another
+    /// session is in its way if it holds one of them and not both modes are shared.
+    ///
+    /// Where nobody is in the way the session holds each of these units, in the stronger of this
+    /// mode and the one in which it held it. Else it waits for the oldest session in its way, or
+    /// dies where that one is older than itself. Only a grant changes anything.
+    pub fn request(&mut self, session: u32, pred: u32, units: &[Bits], mode: Mode) -> Asked
+        requires { pred < length self.old }
+        ensures answered { IsAnswered (modes_at self.old pred) session pred
+            (prefixes_of units.now) mode result }
+        ensures left { Leaves self.old session pred (prefixes_of units.now) mode result self.new }
+    {
+        let file = &mut self.files[pred as usize];
+        file.request(session, pred, units, mode)
+    }
+
     /// Nobody holds a unit any more. It takes no memory.
     pub fn forget(&mut self, pred: u32, prefix: &Bits)
         requires { pred < length self.old }

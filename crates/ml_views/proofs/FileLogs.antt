@@ -8,7 +8,7 @@ use Rattle.std.specs.Option.{unwrap_or}
 use Rattle.std.specs.Ordering.{is_eq, is_gt, eq_by_cmp}
 use Rattle.std.specs.BTreeMap.{BTreeMap, UpdatesBy, get_by, IsLowerBound}
 use Rattle.std.specs.Map.{lookup}
-use Rattle.std.specs.FinMap.{get, empty, get-empty, same_map}
+use Rattle.std.specs.FinMap.{get, empty, get-empty}
 use Rattle.ml_bits.specs.BitList.{BitList, bits_cmp}
 use Rattle.ml_views.specs.UndoLog.{key_cmp, notes_at, with_notes, HasNotesAtEachKey}
 use Rattle.ml_views.specs.inside.Layout.{FileLog, file_log, notes_of, IsFirstKey}
@@ -76,7 +76,8 @@ not_greater Equal e p = cc
 not_greater Greater e p = cc
 
 -- the first key
-pub first_key : (f : FileLog) (m : Tree) (k : BitList) (l : NoteList) → file_log m.entries ≡ f → get_by (bits_cmp k) m ≡ Some l → IsLowerBound bits_cmp m k → IsFirstKey f k.bits
+pub first_key : (f : FileLog) (m : Tree) (k : BitList) (l : NoteList) → file_log m.entries ≡ f → get_by (bits_cmp k) m ≡ Some l
+    → IsLowerBound bits_cmp m k → IsFirstKey f k.bits
 first_key f m k l v e h = subst (λ (t : FileLog). IsFirstKey t k.bits) v (record {
   noted = subst IsSome (sym (get_file m k ∙ ap (option_map notes_of) e)) refl;
   least = λ other s. not_greater _ (h (key_of other) (seen_some _ (subst IsSome (get_file m (key_of other)) s)));

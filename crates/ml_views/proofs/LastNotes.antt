@@ -1,6 +1,6 @@
 -- The last of some notes, and what they tell at a stamp.
-use Rattle.std.proofs.Common.{◌≡◌, ◌≢◌, ℕ, ◌+◌, ◌-◌, ◌<◌, ◌≤◌, suc, get_or, List, [], ◌∷◌, ◌++◌, length, take, Bool, true, false, refl, sym, ap, subst, ◌∙◌, Some, None, arith, length-append}
-use Rattle.std.specs.Prelude.{Option, option_map, slice_get, nat_lt}
+use Rattle.std.proofs.Common.{◌≡◌, ◌≢◌, ℕ, ◌+◌, ◌-◌, ◌<◌, ◌≤◌, suc, get_or, List, [], ◌∷◌, ◌++◌, length, take, Bool, true, false, refl, sym, ap, ◌∙◌, Some, arith, length-append}
+use Rattle.std.specs.Prelude.{option_map, slice_get, nat_lt}
 use Rattle.std.specs.List.{filter}
 use Rattle.std.specs.Option.{unwrap_or}
 use Rattle.std.proofs.Math.Seq.{take-append_seam, get_or-append_seam}
@@ -38,13 +38,16 @@ by_test : (stamp : ℕ) (ns : List Note) (n : Note) (b : Bool) → nat_lt n.stam
 by_test stamp ns n b e = ap (λ (t : Bool). filter (λ (_ : Note). t) (n ∷ [])) e
 
 -- a last note with a smaller stamp decides
-pub flag_of_last : (stamp : ℕ) (committed : Bool) (ns : List Note) (n : Note) → nat_lt n.stamp stamp ≡ true → flag_at stamp committed (ns ++ n ∷ []) ≡ n.present
+pub flag_of_last : (stamp : ℕ) (committed : Bool) (ns : List Note) (n : Note) → nat_lt n.stamp stamp ≡ true
+    → flag_at stamp committed (ns ++ n ∷ []) ≡ n.present
 flag_of_last stamp committed ns n e =
-    ap (λ ms. unwrap_or (option_map (λ (n : Note). n.present) (last_note ms)) committed) (with_one stamp ns n ∙ ap (λ ms. notes_before stamp ns ++ ms) (by_test stamp ns n true e))
+    ap (λ ms. unwrap_or (option_map (λ (n : Note). n.present) (last_note ms)) committed) (with_one stamp ns n
+    ∙ ap (λ ms. notes_before stamp ns ++ ms) (by_test stamp ns n true e))
     ∙ ap (λ o. unwrap_or (option_map (λ (n : Note). n.present) o) committed) (last_of_more (notes_before stamp ns) n)
 
 -- and one with a greater stamp doesn't
-pub flag_of_others : (stamp : ℕ) (committed : Bool) (ns : List Note) (n : Note) → nat_lt n.stamp stamp ≡ false → flag_at stamp committed (ns ++ n ∷ []) ≡ flag_at stamp committed ns
+pub flag_of_others : (stamp : ℕ) (committed : Bool) (ns : List Note) (n : Note) → nat_lt n.stamp stamp ≡ false
+    → flag_at stamp committed (ns ++ n ∷ []) ≡ flag_at stamp committed ns
 flag_of_others stamp committed ns n e =
     ap (λ ms. unwrap_or (option_map (λ (n : Note). n.present) (last_note ms)) committed)
     (with_one stamp ns n ∙ (ap (λ ms. notes_before stamp ns ++ ms) (by_test stamp ns n false e) ∙ append_none (notes_before stamp ns)))
@@ -58,4 +61,5 @@ taken ns k d p h =
 -- the same of the note at a place among the first ones
 pub flag_of_place : (stamp : ℕ) (committed : Bool) (ns : List Note) (k : ℕ) (d : Note) → 0 < k → k ≤ length ns → (get_or ns (k - 1) d).stamp < stamp
     → (get_or ns (k - 1) d).present ≡ flag_at stamp committed (take k ns)
-flag_of_place stamp committed ns k d p h l = sym (ap (flag_at stamp committed) (taken ns k d p h) ∙ flag_of_last stamp committed (take (k - 1) ns) (get_or ns (k - 1) d) (lt-ltb _ _ l))
+flag_of_place stamp committed ns k d p h l = sym (ap (flag_at stamp committed) (taken ns k d p h)
+    ∙ flag_of_last stamp committed (take (k - 1) ns) (get_or ns (k - 1) d) (lt-ltb _ _ l))

@@ -1,16 +1,16 @@
 -- Maps to lists of notes, and what it means to put a list at a key.
-use Rattle.std.proofs.Common.{◌≡◌, ◌≢◌, List, [], ◌∷◌, Bool, true, false, cond, refl, sym, ap, subst, ◌∙◌, Some, None}
-use Rattle.std.specs.Prelude.{Option, IsSome}
+use Rattle.std.proofs.Common.{◌≡◌, ◌≢◌, List, [], ◌∷◌, Bool, true, false, cond, refl, sym, ap, ◌∙◌, Some, None}
+use Rattle.std.specs.Prelude.{Option}
 use Rattle.std.specs.declared.cmp.Ordering.{Ordering}
 use Rattle.std.specs.declared.cmp.Ordering.TheVariants.{Less, Equal, Greater}
 use Rattle.std.specs.Option.{unwrap_or}
 use Rattle.std.specs.Ordering.{nat_cmp, bool_cmp, is_eq, eq_by_cmp}
 use Rattle.std.specs.Cmp.{IsTotalOrder, bool_cmp_total, eq_by_cmp_equiv, nat_cmp_total, on_total}
-use Rattle.std.specs.Cmp.Lexicographic.{slice_cmp, lists_total}
+use Rattle.std.specs.Cmp.Lexicographic.{lists_total}
 use Rattle.std.proofs.lemmas.Cmp.{then_total}
 use Rattle.std.proofs.lemmas.Map.Lookups.{exact_pairs, exact_unsigned}
-use Rattle.std.specs.FinMap.{FinMap, IsAntisymmetric, get, insert, remove, get-insert, get-remove, same_map, slice_cmp-IsAntisymmetric}
-use Rattle.ml_views.specs.UndoLog.{Site, key_cmp, site_cmp, notes_at, with_notes, HasNotesAtEachKey, all_but_last}
+use Rattle.std.specs.FinMap.{FinMap, IsAntisymmetric, get, get-insert, get-remove, same_map, slice_cmp-IsAntisymmetric}
+use Rattle.ml_views.specs.UndoLog.{FileKey, key_cmp, file_key_cmp, notes_at, with_notes, HasNotesAtEachKey}
 use Rattle.ml_views.specs.declared.note.Note.{Note}
 
 bool_cmp_exact : IsAntisymmetric bool_cmp
@@ -25,11 +25,11 @@ key_cmp_total = lists_total bool_cmp_total
 pub key_cmp_exact : IsAntisymmetric key_cmp
 key_cmp_exact = slice_cmp-IsAntisymmetric bool_cmp_exact
 
-pub site_cmp_total : IsTotalOrder site_cmp
-site_cmp_total = then_total (on_total (λ (p : Site). p.0) nat_cmp_total) (on_total (λ (p : Site). p.1) key_cmp_total)
+pub file_key_cmp_total : IsTotalOrder file_key_cmp
+file_key_cmp_total = then_total (on_total (λ (p : FileKey). p.0) nat_cmp_total) (on_total (λ (p : FileKey). p.1) key_cmp_total)
 
-pub site_cmp_exact : IsAntisymmetric site_cmp
-site_cmp_exact = exact_pairs nat_cmp key_cmp exact_unsigned key_cmp_exact
+pub file_key_cmp_exact : IsAntisymmetric file_key_cmp
+file_key_cmp_exact = exact_pairs nat_cmp key_cmp exact_unsigned key_cmp_exact
 
 -- what a map has at a key with these notes
 abbrev pub listed : List Note → Option (List Note)
@@ -71,7 +71,8 @@ module _ {K : Type 0} {R : K → K → Ordering} (o : IsTotalOrder R) where
 
   module _ (same : IsAntisymmetric R) where
     -- a map with what it is said to have at each key
-    pub is_with_notes : (m n : FinMap R (List Note)) (k : K) (ns : List Note) → ((q : K) → get n q ≡ cond (eq_by_cmp R q k) (listed ns) (get m q)) → n ≡ with_notes m k ns
+    pub is_with_notes : (m n : FinMap R (List Note)) (k : K) (ns : List Note) → ((q : K) → get n q ≡ cond (eq_by_cmp R q k) (listed ns) (get m q))
+        → n ≡ with_notes m k ns
     is_with_notes m n k ns h = same_map o same _ _ (λ q. h q ∙ sym (get-with_notes m k ns q))
 
     over : (b : Bool) (x y z : Option (List Note)) → cond b x (cond b y z) ≡ cond b x z
@@ -81,7 +82,8 @@ module _ {K : Type 0} {R : K → K → Ordering} (o : IsTotalOrder R) where
     -- the later notes stand
     pub with_notes_twice : (m : FinMap R (List Note)) (k : K) (ns ms : List Note) → with_notes (with_notes m k ns) k ms ≡ with_notes m k ms
     with_notes_twice m k ns ms = is_with_notes m _ k ms (λ q.
-        get-with_notes (with_notes m k ns) k ms q ∙ (ap (cond (eq_by_cmp R q k) (listed ms)) (get-with_notes m k ns q) ∙ over (eq_by_cmp R q k) (listed ms) (listed ns) (get m q)))
+        get-with_notes (with_notes m k ns) k ms q ∙ (ap (cond (eq_by_cmp R q k) (listed ms)) (get-with_notes m k ns q)
+        ∙ over (eq_by_cmp R q k) (listed ms) (listed ns) (get m q)))
 
     relisted : (r : Option (List Note)) → r ≢ Some [] → r ≡ listed (unwrap_or r [])
     relisted None h = refl

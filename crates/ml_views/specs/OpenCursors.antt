@@ -1,5 +1,5 @@
 -- Open cursors. Contracts see those of a session as a list, in the order of their numbers.
-use Rattle.std.specs.Prelude.{ℕ, List, [], ◌∷◌, zero, suc, Option, None, Some}
+use Rattle.std.specs.Prelude.{ℕ, List, [], ◌∷◌, zero, suc, None, Some}
 use Rattle.ml_bits.specs.BitList.{BitList}
 use Rattle.ml_term.specs.declared.term.Term.{Term}
 use Rattle.ml_views.specs.declared.cursors.Cursor.{Cursor}

@@ -2,7 +2,7 @@
 -- item under that key, in the order of its operations. The code keeps a search tree for each
 -- declaration and walks a key's notes from the back; here the log is one finite map, and what the
 -- session sees is read off a whole list.
-use Rattle.std.specs.Prelude.{◌≡◌, ◌≢◌, ℕ, ◌-◌, Bool, List, [], ◌∷◌, ◌++◌, length, take, Option, Some, None}
+use Rattle.std.specs.Prelude.{◌≢◌, ℕ, ◌-◌, Bool, List, [], ◌∷◌, ◌++◌, length, take, Option, Some}
 use Rattle.std.specs.Prelude.{option_map, slice_get, nat_lt, IsSome}
 use Rattle.std.specs.List.{filter}
 use Rattle.std.specs.Option.{unwrap_or}
@@ -13,21 +13,21 @@ use Rattle.std.specs.declared.cmp.Ordering.TheVariants.{Greater}
 use Rattle.std.specs.FinMap.{FinMap, get, insert, remove}
 use Rattle.ml_views.specs.declared.note.Note.{Note}
 
--- where an item is: its declaration and the bits of its key
-abbrev pub Site : Type 0
-Site = ℕ × List Bool
+-- where an item stands: its declaration, and its key in that declaration's file
+abbrev pub FileKey : Type 0
+FileKey = ℕ × List Bool
 
 -- the order of keys: by bits
 abbrev pub key_cmp : List Bool → List Bool → Ordering
 key_cmp = slice_cmp bool_cmp
 
--- the order of items: by declaration, and then by key
-abbrev pub site_cmp : Site → Site → Ordering
-site_cmp a b = ordering_then (nat_cmp a.0 b.0) (key_cmp a.1 b.1)
+-- the order of declarations and keys: by declaration, and then by key
+abbrev pub file_key_cmp : FileKey → FileKey → Ordering
+file_key_cmp a b = ordering_then (nat_cmp a.0 b.0) (key_cmp a.1 b.1)
 
 -- an undo log
 abbrev pub UndoLog : Type 0
-UndoLog = FinMap site_cmp (List Note)
+UndoLog = FinMap file_key_cmp (List Note)
 
 -- the notes at a key, none where it isn't in the map
 abbrev pub notes_at : {K : Type 0} {R : K → K → Ordering} → FinMap R (List Note) → K → List Note
@@ -52,12 +52,12 @@ abbrev pub all_but_last : List Note → List Note
 all_but_last ns = take (length ns - 1) ns
 
 -- an undo log with one more note of an item
-abbrev pub with_note : UndoLog → Site → Note → UndoLog
-with_note m site note = with_notes m site (notes_at m site ++ note ∷ [])
+abbrev pub with_note : UndoLog → FileKey → Note → UndoLog
+with_note m item note = with_notes m item (notes_at m item ++ note ∷ [])
 
 -- an undo log without the last note of an item
-abbrev pub without_last_note : UndoLog → Site → UndoLog
-without_last_note m site = with_notes m site (all_but_last (notes_at m site))
+abbrev pub without_last_note : UndoLog → FileKey → UndoLog
+without_last_note m item = with_notes m item (all_but_last (notes_at m item))
 
 -- the notes with smaller stamps
 abbrev pub notes_before : ℕ → List Note → List Note
@@ -70,6 +70,6 @@ flag_at stamp committed ns =
     unwrap_or (option_map (λ (n : Note). n.present) (last_note (notes_before stamp ns))) committed
 
 -- an item is noted, and none that is noted comes before it
-pub record IsFirstNoted (m : UndoLog) (site : Site) : Type 0 where
-  pub noted : IsSome (get m site)
-  pub least : (other : Site) → IsSome (get m other) → site_cmp site other ≢ Greater
+pub record IsFirstNoted (m : UndoLog) (item : FileKey) : Type 0 where
+  pub noted : IsSome (get m item)
+  pub least : (other : FileKey) → IsSome (get m other) → file_key_cmp item other ≢ Greater

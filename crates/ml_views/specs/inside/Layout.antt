@@ -5,7 +5,7 @@ use Rattle.std.specs.Prelude.{IsSome, length, slice_index_or}
 use Rattle.std.specs.declared.cmp.Ordering.TheVariants.{Greater}
 use Rattle.std.specs.FinMap.{FinMap, empty, entries, from_entries, get}
 use Rattle.ml_bits.specs.BitList.{BitList}
-use Rattle.ml_views.specs.UndoLog.{UndoLog, Site, key_cmp, HasNotesAtEachKey}
+use Rattle.ml_views.specs.UndoLog.{UndoLog, FileKey, key_cmp, HasNotesAtEachKey}
 use Rattle.ml_views.specs.declared.note.Note.{Note}
 use Rattle.ml_views.specs.declared.note_list.NoteList.{NoteList}
 
@@ -26,11 +26,11 @@ abbrev pub file_log : List (BitList × NoteList) → FileLog
 file_log es = from_entries (map entry_seen es)
 
 -- an entry of the file of a declaration
-abbrev pub entry_of : ℕ → List Bool × List Note → Site × List Note
+abbrev pub entry_of : ℕ → List Bool × List Note → FileKey × List Note
 entry_of d e = ((d, e.0), e.1)
 
 -- the entries of some files, the first of which is that of declaration d
-abbrev pub entries_from : ℕ → List FileLog → List (Site × List Note)
+abbrev pub entries_from : ℕ → List FileLog → List (FileKey × List Note)
 entries_from d [] = []
 entries_from d (m ∷ ms) = map (entry_of d) (entries m) ++ entries_from (d + 1) ms
 

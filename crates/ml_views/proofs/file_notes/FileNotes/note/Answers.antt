@@ -1,4 +1,4 @@
-use Rattle.std.proofs.Common.{◌≡◌, ◌++◌, ◌∷◌, ◌∙◌, ap, sym, [], Some, refl, subst}
+use Rattle.std.proofs.Common.{◌≡◌, ◌++◌, ◌∷◌, ◌∙◌, ap, sym, [], refl, subst}
 use Rattle.std.specs.Prelude.{IsSome}
 use Rattle.ml_views.specs.UndoLog.{notes_at, with_notes}
 use Rattle.ml_views.specs.inside.Layout.{FileLog, notes_of, file_log}
@@ -25,8 +25,10 @@ returns-in-Some-clause-err c = on_err c.push.result (λ e.
     let some = subst IsSome c.in-Some.ensures.value refl in
     let k = c.args.key.now in
     updated c.self.inside.keys (c.get_mut.follows.lender c.push.new.self) k c.push.new.self (notes_at (file_log c.self.inside.keys.entries) k.bits)
-    ((c.get_mut.follows.holds c.push.new.self).3 some) (e ∙ (sym (was (goal.at.returns-in-Some-clause-err c).In-Some) ∙ ap (λ (t : FileLog). notes_at t k.bits) (sym c.self.view_is)))
-    ∙ (with_its_notes key_cmp_total key_cmp_exact (file_log c.self.inside.keys.entries) k.bits (file_has_notes c.self.inside.keys) ∙ c.self.view_is)) c.push.ensures.err
+    ((c.get_mut.follows.holds c.push.new.self).3 some) (e ∙ (sym (was (goal.at.returns-in-Some-clause-err c).In-Some)
+    ∙ ap (λ (t : FileLog). notes_at t k.bits) (sym c.self.view_is)))
+    ∙ (with_its_notes key_cmp_total key_cmp_exact (file_log c.self.inside.keys.entries) k.bits (file_has_notes c.self.inside.keys)
+    ∙ c.self.view_is)) c.push.ensures.err
 
 pub returns-clause-ok : goal.returns-clause-ok
 returns-clause-ok c =
@@ -35,5 +37,6 @@ returns-clause-ok c =
     let none = missed c.args.self.now c.self.inside.keys c.args.key.now c.self.view_is c.in_default.ensures.value in
     let at = c.get_mut.follows.lender-at-none in
     let same : file_log at.entries ≡ c.args.self.now = ap (λ (m : Tree). file_log m.entries) c.get_mut.follows.holds-at-none ∙ c.self.view_is in
-    let put = updated at c.insert.new.self c.in_ok-copy.copy c.of.result ns c.in_ok-insert.ensures.updates (c.of.ensures ∙ ap (λ ms. ms ++ c.args.note ∷ []) (sym none)) in
+    let put = updated at c.insert.new.self c.in_ok-copy.copy c.of.result ns c.in_ok-insert.ensures.updates (c.of.ensures
+    ∙ ap (λ ms. ms ++ c.args.note ∷ []) (sym none)) in
     put ∙ (ap (λ copy. with_notes (file_log at.entries) copy.bits ns) c.in_ok-copy.ensures ∙ ap (λ (t : FileLog). with_notes t k ns) same)

@@ -1,4 +1,4 @@
-use Rattle.std.proofs.Common.{◌≡◌, ◌∙◌, ap, sym, [], Some, refl, subst}
+use Rattle.std.proofs.Common.{◌≡◌, ◌∙◌, ap, sym, [], refl, subst}
 use Rattle.std.specs.Prelude.{IsSome}
 use Rattle.ml_views.specs.UndoLog.{all_but_last, notes_at, with_notes}
 use Rattle.ml_views.specs.inside.Layout.{FileLog, notes_of}
@@ -22,9 +22,11 @@ pub returns-then-not-pop : goal.returns-then-not-pop
 returns-then-not-pop c =
     let some = subst IsSome c.in-Some.ensures.value refl in
     let k = c.args.key.now.bits in
-    let left = updated c.self.inside.keys (c.get_mut.follows.lender c.pop.new.self) c.args.key.now c.pop.new.self _ ((c.get_mut.follows.holds c.pop.new.self).3 some) refl in
+    let left = updated c.self.inside.keys (c.get_mut.follows.lender c.pop.new.self) c.args.key.now c.pop.new.self _ ((c.get_mut.follows.holds
+    c.pop.new.self).3 some) refl in
     let gone = removed (c.get_mut.follows.lender c.pop.new.self) c.remove.new.self c.args.key.now c.remove.ensures.updates in
-    let none : all_but_last (notes_at c.args.self.now k) ≡ [] = ap all_but_last (was (goal.at.returns-then-not-pop c).In-Some) ∙ c.pop.ensures.alone c.if-not-pop.true in
+    let none : all_but_last (notes_at c.args.self.now k) ≡ [] = ap all_but_last (was (goal.at.returns-then-not-pop c).In-Some)
+    ∙ c.pop.ensures.alone c.if-not-pop.true in
     let all = gone ∙ (ap (λ (t : FileLog). with_notes t k []) left ∙ (with_notes_twice key_cmp_total key_cmp_exact _ k _ []
     ∙ (ap (λ (t : FileLog). with_notes t k []) c.self.view_is ∙ ap (with_notes c.args.self.now k) (sym none)))) in
     elim c.match-remove.branch [ in-Some-1 w ↦ w.self-is ∙ all | in-None-1 w ↦ w.self-is ∙ all ]

@@ -8,5 +8,7 @@ use Rattle.ml_views.proofs.undo.Undo.is_empty.Goals as goal
 
 pub returns-clause-empty : goal.returns-clause-empty
 returns-clause-empty c =
-    let f = subst (λ (ms : List FileLog). MatchOption c.first_noted.result (undo_log ms ≡ empty) (IsFirstFile ms)) c.deref.ensures.value c.first_noted.ensures in
-    subst (λ (t : UndoLog). IsTrue c.is_none.result ↔ (t ≡ empty)) c.self.view_is (is_emptied c.first_noted.result c.is_none.result c.self.inside.files.items f c.is_none.ensures)
+    let f = subst (λ (ms : List FileLog). MatchOption c.first_noted.result (undo_log ms ≡ empty) (IsFirstFile ms)) c.deref.ensures.value
+    c.first_noted.ensures in
+    subst (λ (t : UndoLog). IsTrue c.is_none.result ↔ (t ≡ empty)) c.self.view_is (is_emptied c.first_noted.result c.is_none.result
+    c.self.inside.files.items f c.is_none.ensures)

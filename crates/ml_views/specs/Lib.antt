@@ -1,0 +1,3 @@
+pub mod OpenCursors
+pub mod UndoLog
+pub mod inside

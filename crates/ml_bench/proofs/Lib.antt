@@ -1,1 +1,2 @@
 pub mod AllowedTuples
+pub mod HeadArguments

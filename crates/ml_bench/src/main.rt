@@ -5,6 +5,8 @@
 
 mod append;
 mod copy;
+mod enter;
+mod evaluate;
 mod fill;
 mod ground;
 mod insert;
@@ -20,6 +22,8 @@ mod unify;
 
 use append::append;
 use copy::copy;
+use enter::enter;
+use evaluate::evaluate;
 use fill::fill;
 use ground::ground;
 use insert::insert;
@@ -68,6 +72,8 @@ fn run_work(alloc: Global, work: &str, count: u32) -> Result<Option<bool>, Alloc
         "unify" => Ok(Some(unify(alloc, count)?)),
         "ground" => Ok(Some(ground(alloc, count)?)),
         "copy" => Ok(Some(copy(alloc, count)?)),
+        "enter" => Ok(Some(enter(alloc, count)?)),
+        "evaluate" => Ok(Some(evaluate(alloc, count)?)),
         "read" => Ok(Some(read(alloc, count)?)),
         "rules" => Ok(Some(rules(alloc, count)?)),
         "fill2" => Ok(Some(fill(alloc, Width::Two, count)?)),
@@ -114,7 +120,7 @@ fn tell_regions(
 // Tells what the words may be.
 fn usage(rt: &HostRuntime) -> io::Result<ExitCode> {
     println!(rt; "ml_bench WORK N, where WORK is one of")?;
-    println!(rt; "unify ground append copy read rules fill2 fill3 insert2 insert3")?;
+    println!(rt; "unify ground append copy enter evaluate read rules fill2 fill3 insert2 insert3")?;
     println!(rt; "match2none match2first match2second match2both")?;
     println!(rt; "match3none match3first match3second match3both")?;
     println!(rt; "regions2none regions2first regions2second regions2both")?;

@@ -1,7 +1,10 @@
 //! Works on a heap that are undone, so that they can be done again.
-ghost use Rattle.std.specs.Prelude.{◌≡◌, ◌<◌, OnOk};
-ghost use Rattle.ml_heap.specs.Changes.{cell_count};
+ghost use Rattle.std.specs.Prelude.{◌≡◌, ◌<◌, OnOk, length};
+ghost use Rattle.ml_compile.specs.Spells.{SpellsClause};
+ghost use Rattle.ml_heap.specs.Changes.{AreCells, cell_count};
+ghost use Rattle.ml_search.specs.Program.{Clause, arity_of};
 
+use ml_compile::Instr;
 use ml_heap::{Heap, Ref, TreeStop};
 use std::alloc::AllocError;
 
@@ -27,4 +30,25 @@ pub fn copy_and_undo(heap: &mut Heap, at: Ref) -> Result<(), TreeStop>
     heap.store_tree(&term)?;
     heap.undo_to(mark);
     Ok(())
+}
+
+/// Enters a clause with some cells, undoes it, and says whether it could be entered. The heap is
+/// then as it was.
+pub fn enter_and_undo(
+    heap: &mut Heap,
+    slots: &mut Vec<Ref>,
+    todo: &mut Vec<Ref>,
+    code: &[Instr],
+    args: &[Ref],
+) -> Result<bool, AllocError>
+    requires spelled { (c : Clause) × (SpellsClause code.now c
+        × (arity_of c.head ≡ length args.now)) }
+    requires inside { AreCells (cell_count heap.old) args.now }
+    ensures { OnOk result (heap.new ≡ heap.old) }
+{
+    let mark = heap.mark();
+    slots.truncate(0);
+    let entered = ml_match::enter(heap, slots, todo, code, args)?;
+    heap.undo_to(mark);
+    Ok(entered.is_some())
 }

@@ -27,5 +27,7 @@ returns c s u =
     let found = subst IsSome c.in-Some.ensures.value refl in
     let before = was (goal.at.returns c).In-Some s in
     held_updated c.self.inside.units lent c.self.invariant holds.4 _ c.self.view_is c.args.prefix.now (Some c.weaken.new.self) (holds.3 found) s u
-    ∙ (ap (λ o. cond (same_bits u c.args.prefix.now.bits) o (held_in c.args.self.now s u)) (c.weaken.ensures s ∙ ap (cond (s == c.args.session) c.args.mode) (sym before))
-    ∙ at_holder (s == c.args.session) (same_bits u c.args.prefix.now.bits) c.args.mode _ _ (λ e. ap (held_in c.args.self.now s) (sym (same_prefix u c.args.prefix.now.bits e))))
+    ∙ (ap (λ o. cond (same_bits u c.args.prefix.now.bits) o (held_in c.args.self.now s u)) (c.weaken.ensures s ∙ ap (cond
+    (s == c.args.session) c.args.mode) (sym before))
+    ∙ at_holder (s == c.args.session) (same_bits u c.args.prefix.now.bits) c.args.mode _ _ (λ e. ap (held_in c.args.self.now s) (sym
+    (same_prefix u c.args.prefix.now.bits e))))

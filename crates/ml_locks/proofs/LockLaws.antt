@@ -3,9 +3,8 @@ use Rattle.std.proofs.Common.{◌≡◌, ℕ, ◌<◌, zero, suc, Bool, true, fa
 use Rattle.std.specs.Prelude.{Option, ◌==◌, ◌&&◌, ◌||◌}
 use Rattle.ml_desk.specs.declared.death.Death.{Death}
 use Rattle.ml_desk.specs.declared.mode.Mode.{Mode}
-use Rattle.ml_desk.specs.declared.mode.Mode.TheVariants.{S, X}
-use Rattle.ml_locks.specs.Changes.{IsGranted, IsWeakened, stronger, is_needed}
-use Rattle.ml_locks.specs.Modes.{FileModes, Locks, mode_of, same_bits}
+use Rattle.ml_locks.specs.Changes.{IsGranted, IsWeakened, stronger}
+use Rattle.ml_locks.specs.Modes.{Locks, mode_of, same_bits}
 use Rattle.ml_locks.specs.Requests.{IsLawful, NamesDeath, excludes, modes_at}
 use Rattle.ml_locks.proofs.StoredModes.{same_file, at_slot, two_true, numbers_alike, restored}
 

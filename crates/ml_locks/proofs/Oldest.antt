@@ -1,6 +1,6 @@
 -- The least numbers that pass tests.
-use Rattle.std.proofs.Common.{◌≡◌, ℕ, ◌≤◌, ◌⊎◌, Bool, true, false, cond, List, [], ◌∷◌, refl, sym, ap, ◌∙◌, subst, Some, None, inl, inr, arith}
-use Rattle.std.specs.Prelude.{Option, ◌==◌, ◌&&◌, ◌||◌, not, min}
+use Rattle.std.proofs.Common.{◌≡◌, ℕ, ◌≤◌, ◌⊎◌, Bool, true, false, refl, sym, ap, ◌∙◌, Some, None, inl, inr, arith}
+use Rattle.std.specs.Prelude.{Option, ◌==◌, ◌||◌, min}
 use Rattle.std.proofs.lemmas.Bool.Decides.{eqb_tells}
 use Rattle.ml_locks.specs.Requests.{IsLeast}
 use Rattle.ml_locks.specs.inside.Waiting.{older}

@@ -1,4 +1,4 @@
-use Rattle.std.proofs.Common.{◌≡◌, sym, ◌∙◌, Some, None, Ok, Err}
+use Rattle.std.proofs.Common.{sym, ◌∙◌, Some, None, Ok, Err}
 use Rattle.std.specs.Prelude.{Result, IfOk}
 use Rattle.std.specs.declared.alloc.AllocError.{AllocError}
 use Rattle.ml_locks.specs.declared.holders.Holders.{Holders}

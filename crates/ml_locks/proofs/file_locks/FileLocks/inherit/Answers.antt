@@ -1,4 +1,4 @@
-use Rattle.std.proofs.Common.{◌≡◌, ap, ◌∙◌, cond, Some}
+use Rattle.std.proofs.Common.{ap, ◌∙◌, cond, Some}
 use Rattle.ml_bits.specs.BitList.{BitList}
 use Rattle.ml_locks.specs.Modes.{held_in, same_bits}
 use Rattle.ml_locks.proofs.StoredModes.{held_updated}

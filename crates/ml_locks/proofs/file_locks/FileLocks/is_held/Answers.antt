@@ -1,4 +1,4 @@
-use Rattle.std.proofs.Common.{◌≡◌, Some, None}
+use Rattle.std.proofs.Common.{Some, None}
 use Rattle.ml_locks.specs.Modes.{held_in}
 use Rattle.ml_locks.specs.inside.Stored.{holder_mode}
 use Rattle.ml_locks.proofs.StoredModes.{held_found}

@@ -1,4 +1,4 @@
-use Rattle.std.proofs.Common.{◌≡◌, sym, ◌∙◌, Some, None}
+use Rattle.std.proofs.Common.{sym, ◌∙◌, Some, None}
 use Rattle.ml_locks.proofs.StoredModes.{held_found}
 use Rattle.ml_locks.proofs.file_locks.FileLocks.mode_of.Goals as goal
 

@@ -1,10 +1,9 @@
 use Rattle.std.proofs.Common.{◌≡◌, ap, Some, None, Bool, true, false, refl}
 use Rattle.std.specs.Prelude.{◌==◌, ◌&&◌, not}
-use Rattle.ml_locks.specs.Modes.{held_in}
 use Rattle.ml_locks.specs.inside.Stored.{holder_mode}
 use Rattle.ml_locks.specs.inside.Waiting.{stands_in_way}
 use Rattle.ml_locks.proofs.Oldest.{least_alike}
-use Rattle.ml_locks.proofs.StoredModes.{held_found, mode_among}
+use Rattle.ml_locks.proofs.StoredModes.{held_found}
 use Rattle.ml_locks.proofs.file_locks.FileLocks.oldest_in_way_at.Goals as goal
 
 pub returns-in-Some : goal.returns-in-Some

@@ -1,4 +1,4 @@
-use Rattle.std.proofs.Common.{◌≡◌, sym, ap, ◌∙◌, cond, None, rules}
+use Rattle.std.proofs.Common.{sym, ap, ◌∙◌, cond, None, rules}
 use Rattle.std.specs.Prelude.{◌==◌}
 use Rattle.std.proofs.lemmas.Map.Keys.{IsDistinct-from_sorted}
 use Rattle.ml_bits.specs.BitList.{bits_cmp}

@@ -1,4 +1,4 @@
-use Rattle.std.proofs.Common.{◌≡◌, ap, ◌∙◌, cond, Some, None, sym}
+use Rattle.std.proofs.Common.{ap, ◌∙◌, cond, Some, None}
 use Rattle.std.specs.Prelude.{◌==◌}
 use Rattle.ml_bits.specs.BitList.{BitList}
 use Rattle.ml_locks.specs.Modes.{held_in, same_bits}

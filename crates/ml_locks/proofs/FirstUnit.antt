@@ -1,5 +1,5 @@
 -- The first of some prefixes that pass a test.
-use Rattle.std.proofs.Common.{◌≡◌, ◌≢◌, ℕ, ◌<◌, ◌+◌, Bool, true, false, cond, List, [], ◌∷◌, length, map, take, get_or, refl, sym, ap, ◌∙◌, subst, Some, None, inl, inr, arith}
+use Rattle.std.proofs.Common.{◌≡◌, ◌≢◌, ℕ, ◌<◌, ◌+◌, Bool, true, false, cond, List, [], ◌∷◌, length, take, get_or, refl, sym, ap, ◌∙◌, subst, Some, None, inl, inr}
 use Rattle.std.specs.Prelude.{Option, option_map, ◌&&◌, ◌||◌}
 use Rattle.std.specs.List.{list_any}
 use Rattle.std.specs.Ordering.{bool_cmp, is_lt, is_eq}
@@ -57,28 +57,37 @@ module _ (test : List Bool → Bool) where
       both false e f = f
 
   module _ (us vs : List (List Bool)) (p : List Bool) (more : (u : List Bool) → is_needed vs u ≡ (is_needed us u || same_bits u p)) where
-    below : (r : Option (List Bool)) → is_before p r ≡ true → IsFirst test us r → (u : List Bool) → is_needed us u ≡ true → test u ≡ true → slice_cmp bool_cmp u p ≡ Less → ⊥
+    below : (r : Option (List Bool)) → is_before p r ≡ true → IsFirst test us r → (u : List Bool) → is_needed us u ≡ true → test u ≡ true
+        → slice_cmp bool_cmp u p ≡ Less → ⊥
     below None b h u n t l = never (test u) (h u n) t
     below (Some q) b h u n t l = h.2 u n t ((lists_total bool_cmp_total).trans u p q l (less_of _ b))
 
     taken : (r : Option (List Bool)) → test p ≡ true → is_before p r ≡ true → IsFirst test us r → IsFirst test vs (Some p)
-    taken r t b h = (more p ∙ second_passes (is_needed us p) (same_bits p p) (same_itself p), t, λ u n passes.
-        elim (passes_either (is_needed us u) (same_bits u p) (sym (more u) ∙ n)) as (λ _. slice_cmp bool_cmp u p ≢ Less) [
-          | inl e ↦ below r b h u e passes
-          | inr e ↦ equal_not_less _ e
-        ])
+    taken r t b h = (
+      more p ∙ second_passes (is_needed us p) (same_bits p p) (same_itself p),
+      t,
+      λ u n passes.
+          elim (passes_either (is_needed us u) (same_bits u p) (sym (more u) ∙ n)) as (λ _. slice_cmp bool_cmp u p ≢ Less) [
+            | inl e ↦ below r b h u e passes
+            | inr e ↦ equal_not_less _ e
+          ],
+    )
 
     left : (r : Option (List Bool)) → (test p && is_before p r) ≡ false → IsFirst test us r → IsFirst test vs r
     left None b h = λ u n. elim (passes_either (is_needed us u) (same_bits u p) (sym (more u) ∙ n)) [
-          | inl e ↦ h u e
-          | inr e ↦ ap test (same_prefix u p e) ∙ left_fails (test p) b
-        ]
-    left (Some q) b h = (more q ∙ first_passes (is_needed us q) (same_bits q p) h.0, h.1, λ u n passes.
-        elim (passes_either (is_needed us u) (same_bits u p) (sym (more u) ∙ n)) as (λ _. slice_cmp bool_cmp u q ≢ Less) [
-          | inl e ↦ h.2 u e passes
-          | inr e ↦ let same = same_prefix u p e in
-              subst (λ v. slice_cmp bool_cmp v q ≢ Less) (sym same) (not_less _ (right_fails (test p) _ b (ap test (sym same) ∙ passes)))
-        ])
+      | inl e ↦ h u e
+      | inr e ↦ ap test (same_prefix u p e) ∙ left_fails (test p) b
+    ]
+    left (Some q) b h = (
+      more q ∙ first_passes (is_needed us q) (same_bits q p) h.0,
+      h.1,
+      λ u n passes.
+          elim (passes_either (is_needed us u) (same_bits u p) (sym (more u) ∙ n)) as (λ _. slice_cmp bool_cmp u q ≢ Less) [
+            | inl e ↦ h.2 u e passes
+            | inr e ↦ let same = same_prefix u p e in
+                subst (λ v. slice_cmp bool_cmp v q ≢ Less) (sym same) (not_less _ (right_fails (test p) _ b (ap test (sym same) ∙ passes)))
+          ],
+    )
 
     -- one more prefix
     pub first_more : (r : Option (List Bool)) (b : Bool) → b ≡ (test p && is_before p r) → IsFirst test us r → IsFirst test vs (cond b (Some p) r)
@@ -104,7 +113,8 @@ first_step test us i r l h =
     let p = get_or us i [] in
     let b = test p && is_first us i r in
     subst (IsFirst test (take (i + 1) us)) (sym (over_found us b i r))
-    (first_more test (take i us) (take (i + 1) us) p (λ u. list_any_more (same_bits u) us i [] l) (found_in us r) b (ap (λ x. test p && x) (before_is us i r)) h)
+    (first_more test (take i us) (take (i + 1) us) p (λ u. list_any_more (same_bits u) us i [] l) (found_in us r) b (ap (λ x. test p && x)
+    (before_is us i r)) h)
 
 -- and of where it found it
 pub found_within : (b : Bool) (i n : ℕ) (r : Option ℕ) → ((j : ℕ) → r ≡ Some j → j < n) → i < n → (j : ℕ) → cond b (Some i) r ≡ Some j → j < n

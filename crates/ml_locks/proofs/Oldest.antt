@@ -1,6 +1,6 @@
 -- The least numbers that pass tests.
-use Rattle.std.proofs.Common.{◌≡◌, ℕ, ◌≤◌, ◌⊎◌, Bool, true, false, cond, List, [], ◌∷◌, refl, sym, ap, ◌∙◌, subst, Some, None, inl, inr, arith}
-use Rattle.std.specs.Prelude.{Option, ◌==◌, ◌&&◌, ◌||◌, not, min}
+use Rattle.std.proofs.Common.{◌≡◌, ℕ, ◌≤◌, ◌⊎◌, Bool, true, false, refl, sym, ap, ◌∙◌, Some, None, inl, inr, arith}
+use Rattle.std.specs.Prelude.{Option, ◌==◌, ◌||◌, min}
 use Rattle.std.proofs.lemmas.Bool.Decides.{eqb_tells}
 use Rattle.ml_locks.specs.Requests.{IsLeast}
 use Rattle.ml_locks.specs.inside.Waiting.{older}
@@ -40,7 +40,14 @@ least_of_either p q None (Some y) h i =
     (second_passes (p y) (q y) i.0, λ k t. elim (passes_either (p k) (q k) t) [ inl e ↦ never (p k) (h k) e | inr e ↦ i.1 k e ])
 least_of_either p q (Some x) None h i =
     (first_passes (p x) (q x) h.0, λ k t. elim (passes_either (p k) (q k) t) [ inl e ↦ h.1 k e | inr e ↦ never (q k) (i k) e ])
-least_of_either p q (Some x) (Some y) h i = (passes (smaller x y), λ k t. elim (passes_either (p k) (q k) t) [ inl e ↦ below_first k (h.1 k e) | inr e ↦ below_second k (i.1 k e) ])
+least_of_either p q (Some x) (Some y) h i = (
+  passes (smaller x y),
+  λ k t. elim (passes_either (p k) (q k) t) [
+    | inl e ↦ below_first k
+        (h.1 k e)
+    | inr e ↦ below_second k (i.1 k e)
+  ],
+)
   where
     smaller : (x y : ℕ) → (min x y ≡ x) ⊎ (min x y ≡ y)
     smaller x y = grind arith

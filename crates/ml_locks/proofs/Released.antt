@@ -25,7 +25,8 @@ is_among s ks = list_any (λ k. k == s) ks
 abbrev pub others : ℕ → List ℕ → List ℕ
 others session ks = filter (λ k. not (k == session)) ks
 
-one_fewer : (a b c r : Bool) → (a ≡ true → b ≡ true → c ≡ true) → (a ≡ false → b ≡ true → c ≡ false) → cond (not a) (b || (not c && r)) (not c && r) ≡ (not c && (b || r))
+one_fewer : (a b c r : Bool) → (a ≡ true → b ≡ true → c ≡ true) → (a ≡ false → b ≡ true → c ≡ false) → cond (not a) (b || (not c && r))
+    (not c && r) ≡ (not c && (b || r))
 one_fewer true true c r e f = ap (λ x. not x && r) (e refl refl) ∙ sym (ap (λ x. not x && true) (e refl refl))
 one_fewer true false c r e f = refl
 one_fewer false true c r e f = sym (ap (λ x. not x && true) (f refl refl))
@@ -77,10 +78,13 @@ module _ (u : List Bool) (session s : ℕ) where
   abbrev left_of : Option Mode → Option Mode
   left_of o = cond (s == session) None o
 
-  at_entry : (t b : Bool) (v w : Holders) (found found' : Option Holders) → (t ≡ true → found ≡ None) → holder_mode w s ≡ left_of (holder_mode v s) → (b ≡ false → holder_mode w s ≡ None)
-      → mode_among found' s ≡ left_of (mode_among found s) → mode_among (cond b (cond t (Some w) found') found') s ≡ left_of (mode_among (cond t (Some v) found) s)
+  at_entry : (t b : Bool) (v w : Holders) (found found' : Option Holders) → (t ≡ true → found ≡ None) → holder_mode w s ≡ left_of (holder_mode v s)
+      → (b ≡ false → holder_mode w s ≡ None)
+      → mode_among found' s ≡ left_of (mode_among found s) → mode_among (cond b (cond t (Some w) found') found') s ≡ left_of (mode_among (cond t
+      (Some v) found) s)
   at_entry true true v w found found' one is gone ih = is
-  at_entry true false v w found found' one is gone ih = ih ∙ (ap (λ o. left_of (mode_among o s)) (one refl) ∙ (sym (either_none (s == session)) ∙ (sym (gone refl) ∙ is)))
+  at_entry true false v w found found' one is gone ih = ih ∙ (ap (λ o. left_of (mode_among o s)) (one refl) ∙ (sym (either_none (s == session)) ∙
+      (sym (gone refl) ∙ is)))
   at_entry false true v w found found' one is gone ih = ih
   at_entry false false v w found found' one is gone ih = ih
 
@@ -89,12 +93,15 @@ module _ (u : List Bool) (session s : ℕ) where
   lookup_of false xs ys = refl
 
   module _ {F : Type 0} (T : F → BitList → Holders → Bool → Holders → F → Type 0) (f : F)
-      (calls : (k : BitList) (v : Holders) (b : Bool) (w : Holders) (g : F) → T f k v b w g → (holder_mode w s ≡ left_of (holder_mode v s)) × TellsAny (holder_mode w) b × (g ≡ f)) where
-    pub released : (es left : List (BitList × Holders)) → IsDistinct (eq_by_cmp bits_cmp) (keys_of es) → RetainsPairs T f es left → mode_among (stored_at u left) s ≡ left_of (mode_among (stored_at u es) s)
+      (calls : (k : BitList) (v : Holders) (b : Bool) (w : Holders) (g : F) → T f k v b w g → (holder_mode w s ≡ left_of
+      (holder_mode v s)) × TellsAny (holder_mode w) b × (g ≡ f)) where
+    pub released : (es left : List (BitList × Holders)) → IsDistinct (eq_by_cmp bits_cmp) (keys_of es) → RetainsPairs T f es left → mode_among
+        (stored_at u left) s ≡ left_of (mode_among (stored_at u es) s)
     released [] left d r = ap (λ es. mode_among (stored_at u es) s) r ∙ either_none (s == session)
     released (e ∷ es) left d (b, w, g, rest, call, more, is) =
         let p = calls e.0 e.1 b w g call in
         let ih = released es rest (IsDistinct-tail (eq_by_cmp bits_cmp) e.0 (keys_of es) d) (subst (λ h. RetainsPairs T h es rest) p.2 more) in
         ap (λ es. mode_among (stored_at u es) s) is ∙ (ap (λ o. mode_among o s) (lookup_of b ((e.0, w) ∷ rest) rest)
         ∙ at_entry (test e.0) b e.1 w (lookup test es) (lookup test rest)
-        (λ t. lookup-none _ es (none_past_head (eq_by_cmp_equiv bits_cmp_total) (record { bits = u; room = 0 }) e es d t)) p.0 (λ q. quiet (holder_mode w) b p.1 q s) ih)
+        (λ t. lookup-none _ es (none_past_head (eq_by_cmp_equiv bits_cmp_total) (record { bits = u; room = 0 }) e es d t)) p.0 (λ q. quiet
+        (holder_mode w) b p.1 q s) ih)

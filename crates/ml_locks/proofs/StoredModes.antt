@@ -1,5 +1,5 @@
 -- The modes that the entries of one file's map stand for, read off the map's own entries.
-use Rattle.std.proofs.Common.{◌≡◌, ℕ, Bool, true, false, cond, List, [], ◌∷◌, ◌++◌, map, refl, sym, ap, ◌∙◌, subst, Some, None, Ok, Err}
+use Rattle.std.proofs.Common.{◌≡◌, ℕ, Bool, true, false, cond, List, [], ◌∷◌, ◌++◌, map, refl, sym, ap, ◌∙◌, Some, None, Ok, Err}
 use Rattle.std.specs.Prelude.{Option, ◌==◌, ◌&&◌, ◌||◌, Result, OnOk, OnErr}
 use Rattle.std.specs.Option.{option_and_then}
 use Rattle.std.specs.List.{flat_map, list_any, IsDistinct}
@@ -16,7 +16,7 @@ use Rattle.std.proofs.lemmas.Map.{lookup-none}
 use Rattle.std.proofs.lemmas.Map.Entries.{none_past_head}
 use Rattle.std.proofs.lemmas.Map.Keys.{IsDistinct-tail, IsDistinct-from_sorted}
 use Rattle.std.proofs.lemmas.Map.Lookups.{exact_pairs, exact_unsigned}
-use Rattle.std.specs.FinMap.{IsAntisymmetric, get, find, get-from_entries, same_map, slice_cmp-IsAntisymmetric}
+use Rattle.std.specs.FinMap.{IsAntisymmetric, find, get-from_entries, same_map, slice_cmp-IsAntisymmetric}
 use Rattle.std.specs.BTreeMap.{BTreeMap, IsOrdered, UpdatesBy}
 use Rattle.ml_bits.specs.BitList.{BitList, bits_cmp, bits_cmp_total}
 use Rattle.ml_desk.specs.declared.mode.Mode.{Mode}
@@ -75,7 +75,8 @@ module _ (u v : List Bool) (s : ℕ) (rest : List ((List Bool × ℕ) × Mode)) 
   one_more true false a m r = refl
   one_more false t a m r = refl
 
-  find_readers : (ks : List ℕ) → find slot_cmp (u, s) (map (λ k. ((v, k), S)) ks ++ rest) ≡ cond (same_bits u v) (cond (list_any (λ k. k == s) ks) (Some S) after) after
+  find_readers : (ks : List ℕ) → find slot_cmp (u, s) (map (λ k. ((v, k), S)) ks ++ rest) ≡ cond (same_bits u v) (cond (list_any (λ k. k == s) ks)
+      (Some S) after) after
   find_readers [] = same_either (same_bits u v) after
   find_readers (k ∷ ks) = ap (λ b. cond b (Some S) (find slot_cmp (u, s) (map (λ k. ((v, k), S)) ks ++ rest))) (slot_test u v s k)
       ∙ (ap (cond (same_bits u v && (k == s)) (Some S)) (find_readers ks) ∙ one_more (same_bits u v) (k == s) (list_any (λ k. k == s) ks) S after)
@@ -120,14 +121,18 @@ find_stored : (u : List Bool) (s : ℕ) (es : List (BitList × Holders)) → IsD
 find_stored u s [] d = refl
 find_stored u s (e ∷ es) d = find_holders u e.0.bits s (flat_map entry_slots es) e.1
     ∙ (ap (λ r. cond (same_bits u e.0.bits) (or_else (holder_mode e.1 s) r) r) (find_stored u s es (IsDistinct-tail (eq_by_cmp bits_cmp) e.0 (keys_of es) d))
-    ∙ unpassed (same_bits u e.0.bits) e.1 s (stored_at u es) (λ t. lookup-none _ es (none_past_head (eq_by_cmp_equiv bits_cmp_total) (record { bits = u; room = 0 }) e es d t)))
+    ∙ unpassed (same_bits u e.0.bits) e.1 s (stored_at u es) (λ t. lookup-none _ es (none_past_head (eq_by_cmp_equiv bits_cmp_total)
+    (record { bits = u; room = 0 }) e es d t)))
 
 -- what a session holds is what the holders of that prefix say
-pub held_stored : (m : BTreeMap BitList Holders) → IsOrdered bits_cmp m → (s : ℕ) (u : List Bool) → held_in (file_modes m.entries) s u ≡ mode_among (stored_at u m.entries) s
-held_stored m ordered s u = get-from_entries slot_cmp_total (flat_map entry_slots m.entries) (u, s) ∙ find_stored u s m.entries (IsDistinct-from_sorted bits_cmp (keys_of m.entries) ordered)
+pub held_stored : (m : BTreeMap BitList Holders) → IsOrdered bits_cmp m → (s : ℕ) (u : List Bool) → held_in (file_modes m.entries) s u ≡ mode_among
+    (stored_at u m.entries) s
+held_stored m ordered s u = get-from_entries slot_cmp_total (flat_map entry_slots m.entries) (u, s) ∙ find_stored u s m.entries
+    (IsDistinct-from_sorted bits_cmp (keys_of m.entries) ordered)
 
 -- what a session holds of a prefix that the map was asked for
-pub held_found : (m : BTreeMap BitList Holders) → IsOrdered bits_cmp m → (f : FileModes) → file_modes m.entries ≡ f → (u : List Bool) (found : Option Holders) →
+pub held_found : (m : BTreeMap BitList Holders) → IsOrdered bits_cmp m → (f : FileModes) → file_modes m.entries ≡ f → (u : List Bool)
+    (found : Option Holders) →
     found ≡ stored_at u m.entries → (s : ℕ) → held_in f s u ≡ mode_among found s
 held_found m ordered f is u found e s = ap (λ g. held_in g s u) (sym is) ∙ (held_stored m ordered s u ∙ ap (λ o. mode_among o s) (sym e))
 
@@ -136,8 +141,10 @@ over_found true w found s = refl
 over_found false w found s = refl
 
 -- what is held after the map was changed at a prefix
-pub held_updated : (m n : BTreeMap BitList Holders) → IsOrdered bits_cmp m → IsOrdered bits_cmp n → (f : FileModes) → file_modes m.entries ≡ f → (k : BitList) (w : Option Holders) →
-    UpdatesBy bits_cmp (bits_cmp k) m n w → (s : ℕ) (u : List Bool) → held_in (file_modes n.entries) s u ≡ cond (same_bits u k.bits) (mode_among w s) (held_in f s u)
+pub held_updated : (m n : BTreeMap BitList Holders) → IsOrdered bits_cmp m → IsOrdered bits_cmp n → (f : FileModes) → file_modes m.entries ≡ f →
+    (k : BitList) (w : Option Holders) →
+    UpdatesBy bits_cmp (bits_cmp k) m n w → (s : ℕ) (u : List Bool) → held_in (file_modes n.entries) s u ≡ cond (same_bits u k.bits)
+    (mode_among w s) (held_in f s u)
 held_updated m n ordered_m ordered_n f is k w h s u =
     let q : BitList = record { bits = u; room = 0 } in
     held_stored n ordered_n s u
@@ -166,7 +173,8 @@ same_sessions : (k s : ℕ) → (k == s) ≡ (s == k)
 same_sessions k s = grind (arith, nat_tests)
 
 -- a session alone at a prefix that nobody held
-pub one_holder : (k s : ℕ) (b : Bool) (m : Mode) (before : Option Mode) → (b ≡ true → before ≡ None) → cond b (cond (k == s) (Some m) None) before ≡ cond ((s == k) && b) (Some m) before
+pub one_holder : (k s : ℕ) (b : Bool) (m : Mode) (before : Option Mode) → (b ≡ true → before ≡ None) → cond b (cond (k == s)
+    (Some m) None) before ≡ cond ((s == k) && b) (Some m) before
 one_holder k s b m before e = ap (λ t. cond b (cond t (Some m) None) before) (same_sessions k s) ∙ at (s == k) b e
   where
     at : (t b : Bool) → (b ≡ true → before ≡ None) → cond b (cond t (Some m) None) before ≡ cond (t && b) (Some m) before
@@ -200,7 +208,8 @@ stronger_none S = refl
 stronger_none X = refl
 
 -- a mode that is the first at a prefix is the stronger one there
-pub first_there : (a b : Bool) (m : Mode) (x y : Option Mode) → x ≡ y → (b ≡ true → y ≡ None) → cond (a && b) (Some m) x ≡ cond (a && b) (Some (stronger m y)) y
+pub first_there : (a b : Bool) (m : Mode) (x y : Option Mode) → x ≡ y → (b ≡ true → y ≡ None) → cond (a && b) (Some m) x ≡ cond (a && b) (Some
+    (stronger m y)) y
 first_there true true m x y e f = ap Some (stronger_none m ∙ ap (stronger m) (sym (f refl)))
 first_there true false m x y e f = e
 first_there false b m x y e f = e
@@ -208,7 +217,7 @@ first_there false b m x y e f = e
 same_number_itself : (k : ℕ) → (k == k) ≡ true
 same_number_itself k = grind (arith, nat_tests)
 
-numbers_alike : (s k : ℕ) → (s == k) ≡ true → s ≡ k
+pub numbers_alike : (s k : ℕ) → (s == k) ≡ true → s ≡ k
 numbers_alike s k e = grind (arith, nat_tests)
 
 pub two_true : (a b : Bool) → (a && b) ≡ true → (a ≡ true) × (b ≡ true)

@@ -1,5 +1,5 @@
 -- The modes of a table in which one file has changed.
-use Rattle.std.proofs.Common.{◌≡◌, ◌≢◌, ℕ, ◌<◌, ◌≤◌, ◌⊎◌, Bool, true, false, cond, List, length, get_or, refl, sym, ap, ◌∙◌, subst, Some, None, inl, inr, arith}
+use Rattle.std.proofs.Common.{◌≡◌, ◌≢◌, ℕ, ◌<◌, ◌≤◌, ◌⊎◌, Bool, true, false, cond, List, length, get_or, refl, sym, ap, ◌∙◌, Some, inl, inr, arith}
 use Rattle.std.specs.Prelude.{Option, ◌==◌, ◌&&◌, slice_get, slice_set}
 use Rattle.std.specs.Option.{option_and_then}
 use Rattle.std.proofs.lemmas.Bool.Decides.{eqb_tells}
@@ -86,7 +86,8 @@ module _ (t : Locks) (p : ℕ) (f g : FileModes) (there : p < length t) (is : f 
   unchanged e = ap (slice_set t p) (e ∙ is) ∙ set-get_or t p f
 
   -- what an answer leaves of the file, as what it leaves of the table
-  pub left_there : (asker : ℕ) (us : List (List Bool)) (mode : Mode) (result : Asked) → LeavesIn f asker us mode result g → Leaves t asker p us mode result (slice_set t p g)
+  pub left_there : (asker : ℕ) (us : List (List Bool)) (mode : Mode) (result : Asked) → LeavesIn f asker us mode result g
+      → Leaves t asker p us mode result (slice_set t p g)
   left_there asker us mode Granted h = record {
     files = table_files;
     modes = λ s d u. table_changed ((s == asker) && is_needed us u) (Some (stronger mode (held_in f s u))) (Some (stronger mode (mode_of t s d u))) s d u

@@ -1,14 +1,13 @@
 -- What contracts see of the locks: in which mode a session holds a unit. A unit is a declaration's
 -- number with the prefix of a region of its file. The code has the sessions of each unit; here each
 -- unit and session has a mode or none.
-use Rattle.std.specs.Prelude.{◌≡◌, ◌≢◌, ℕ, Bool, true, false, List, Option, Some, None, slice_get}
+use Rattle.std.specs.Prelude.{ℕ, Bool, List, Option, slice_get}
 use Rattle.std.specs.Option.{option_and_then}
 use Rattle.std.specs.Ordering.{bool_cmp, eq_by_cmp, nat_cmp, ordering_then}
 use Rattle.std.specs.Cmp.Lexicographic.{slice_cmp}
 use Rattle.std.specs.FinMap as map
 use Rattle.std.specs.declared.cmp.Ordering.{Ordering}
 use Rattle.ml_desk.specs.declared.mode.Mode.{Mode}
-use Rattle.ml_desk.specs.declared.mode.Mode.TheVariants.{S, X}
 
 -- prefixes and sessions in one order: by the prefix, and then by the session
 abbrev pub slot_cmp : List Bool × ℕ → List Bool × ℕ → Ordering

@@ -12,8 +12,8 @@ ghost use Rattle.ml_locks.specs.inside.Stored.{holder_mode};
 ghost use Rattle.ml_locks.specs.inside.Waiting.{IsGrantedIn, LeavesIn, is_first, stands_in_way};
 
 use crate::OutOfMemory;
-use crate::holders::Holders;
 use crate::asked::Asked;
+use crate::holders::Holders;
 use crate::waiting::{excludes_other, older_of};
 use ml_bits::Bits;
 use ml_desk::{Death, Mode};
@@ -72,7 +72,8 @@ impl FileLocks {
 
     /// Whether any session holds the region with this prefix. It takes no memory.
     pub(crate) fn is_held(&self, prefix: &Bits) -> bool
-        ensures { IsTrue result ↔ (session : ℕ) × IsSome (held_in self.now session prefix.now.bits) }
+        ensures { IsTrue result ↔ (session : ℕ) ×
+            IsSome (held_in self.now session prefix.now.bits) }
     {
         match self.units.get(prefix) {
             Some(holders) => holders.is_held(),
@@ -138,12 +139,7 @@ impl FileLocks {
         }
     }
     /// The oldest session that is in the way of another one's request for some regions.
-    pub(crate) fn oldest_in_way(
-        &self,
-        asker: u32,
-        prefixes: &[Bits],
-        mode: Mode,
-    ) -> Option<u32>
+    pub(crate) fn oldest_in_way(&self, asker: u32, prefixes: &[Bits], mode: Mode) -> Option<u32>
         ensures { IsLeast (is_in_way (held_in self.now) asker (prefixes_of prefixes.now) mode)
             result }
     {
@@ -195,13 +191,7 @@ impl FileLocks {
     }
     /// What a session that asks for some regions, in this mode, comes to. Only a grant changes
     /// anything.
-    pub(crate) fn request(
-        &mut self,
-        asker: u32,
-        pred: u32,
-        prefixes: &[Bits],
-        mode: Mode,
-    ) -> Asked
+    pub(crate) fn request(&mut self, asker: u32, pred: u32, prefixes: &[Bits], mode: Mode) -> Asked
         ensures answered { IsAnswered (held_in self.old) asker pred (prefixes_of prefixes.now) mode
             result }
         ensures left { LeavesIn self.old asker (prefixes_of prefixes.now) mode result self.new }
@@ -231,12 +221,7 @@ impl FileLocks {
 
     // Of some regions the first one, in the order of the prefixes, that a session holds in a mode
     // which excludes this one.
-    fn first_in_way(
-        &self,
-        holder: u32,
-        prefixes: &[Bits],
-        mode: Mode,
-    ) -> Result<Bits, OutOfMemory>
+    fn first_in_way(&self, holder: u32, prefixes: &[Bits], mode: Mode) -> Result<Bits, OutOfMemory>
         requires { list_any (λ u. excludes (held_in self.now holder u) mode)
             (prefixes_of prefixes.now) ≡ true }
         ensures { IfOk result (λ unit. IsFirst (λ u. excludes (held_in self.now holder u) mode)
@@ -287,12 +272,7 @@ impl FileLocks {
 
     // A session holds some regions from now on, each in the stronger of this mode and the one in
     // which it held it. After a refusal all is as before.
-    fn grant_all(
-        &mut self,
-        session: u32,
-        prefixes: &[Bits],
-        mode: Mode,
-    ) -> Result<(), OutOfMemory>
+    fn grant_all(&mut self, session: u32, prefixes: &[Bits], mode: Mode) -> Result<(), OutOfMemory>
         requires { (k : ℕ) →
             is_in_way (held_in self.old) session (prefixes_of prefixes.now) mode k ≡ false }
         ensures ok { OnOk result

@@ -9,9 +9,11 @@
 mod asked;
 mod file_locks;
 mod holders;
+mod laws;
 mod table;
 mod waiting;
 
 pub use asked::Asked;
+pub use laws::{deaths_are_lawful, weakened_after_granted_is_as_before};
 pub use ml_bits::OutOfMemory;
 pub use table::Table;

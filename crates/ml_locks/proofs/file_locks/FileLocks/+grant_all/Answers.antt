@@ -17,7 +17,8 @@ pub returns-in-Err-clause-err : goal.returns-in-Err-clause-err
 returns-in-Err-clause-err t c = let first = c.in-Some.first.now.bits in
     same_file _ _ (λ s u.
     c.weaken.ensures s u
-    ∙ (ap (cond ((s == c.args.session) && same_bits u first) c.mode_of-before.result) (ap (λ f. held_in f s u) c.in-Err.ensures.err ∙ c.in_ok-grant.ensures.ok s u)
+    ∙ (ap (cond ((s == c.args.session) && same_bits u first) c.mode_of-before.result) (ap (λ f. held_in f s u) c.in-Err.ensures.err
+    ∙ c.in_ok-grant.ensures.ok s u)
     ∙ restored ((s == c.args.session) && same_bits u first) c.mode_of-before.result _ _
-      (λ e. let at = at_slot s c.args.session u first e in
-        c.mode_of-before.ensures ∙ (ap (λ k. held_in c.args.self.now k first) (sym at.0) ∙ ap (held_in c.args.self.now s) (sym at.1)))))
+    (λ e. let at = at_slot s c.args.session u first e in
+    c.mode_of-before.ensures ∙ (ap (λ k. held_in c.args.self.now k first) (sym at.0) ∙ ap (held_in c.args.self.now s) (sym at.1)))))

@@ -1,4 +1,4 @@
-use Rattle.std.proofs.Common.{◌≡◌, ◌<◌, ◌≤◌, ◌+◌, ◌∙◌, ap, sym, subst, length, take, get_or, [], Some, None, Bool, List, ℕ, true, false, arith}
+use Rattle.std.proofs.Common.{◌≡◌, ◌<◌, ◌≤◌, ◌+◌, ◌∙◌, ap, sym, subst, length, take, get_or, [], Bool, List, ℕ, true, false, arith}
 use Rattle.std.specs.Prelude.{◌&&◌, Option}
 use Rattle.std.specs.List.{list_any}
 use Rattle.std.proofs.lemmas.List.{length-map, take_all}
@@ -16,8 +16,10 @@ loop-i-preserved c =
     let i = c.loop-i.i in
     let l : i < length us = omega (arith, length-map c.args.prefixes.now (λ (p : BitList). p.bits)) in
     record {
-      first = subst (λ (r : Option ℕ). IsFirst test (take (i + 1) us) (found_in us r)) (sym c.first_of-first.ensures) (first_step test us i c.loop-i.first l c.loop-i.invariant.first);
-      within = λ j e. found_within (test (get_or us i []) && is_first us i c.loop-i.first) i (length c.args.prefixes.now) c.loop-i.first c.loop-i.invariant.within c.loop-i-test.true j
+      first = subst (λ (r : Option ℕ). IsFirst test (take (i + 1) us) (found_in us r)) (sym c.first_of-first.ensures)
+          (first_step test us i c.loop-i.first l c.loop-i.invariant.first);
+      within = λ j e. found_within (test (get_or us i []) && is_first us i c.loop-i.first) i
+          (length c.args.prefixes.now) c.loop-i.first c.loop-i.invariant.within c.loop-i-test.true j
           (sym c.first_of-first.ensures ∙ e);
     }
 
@@ -26,7 +28,8 @@ unreachable-requires c =
     let us : List (List Bool) = prefixes_of c.args.prefixes.now in
     let test = λ (u : List Bool). excludes (held_in c.args.self.now c.args.holder u) c.args.mode in
     let long : length us ≤ c.loop-i.i = omega (arith, length-map c.args.prefixes.now (λ (p : BitList). p.bits)) in
-    let none = none_passes test (take c.loop-i.i us) (subst (λ (r : Option ℕ). IsFirst test (take c.loop-i.i us) (found_in us r)) c.in-None.is c.loop-i.invariant.first) in
+    let none = none_passes test (take c.loop-i.i us) (subst (λ (r : Option ℕ). IsFirst test (take c.loop-i.i us)
+    (found_in us r)) c.in-None.is c.loop-i.invariant.first) in
     clash _ (ap (list_any test) (sym (take_all c.loop-i.i us long)) ∙ none) c.requires
   where
     clash : (b : Bool) → b ≡ false → b ≡ true → ⊥

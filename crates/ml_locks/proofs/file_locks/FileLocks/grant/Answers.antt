@@ -26,7 +26,8 @@ returns-in-Some-clause-ok c =
     held_updated c.self.inside.units lent c.self.invariant holds.4 _ c.self.view_is c.args.prefix.now (Some c.add.new.self) (holds.3 found) s u
     ∙ (ap (λ o. cond (same_bits u c.args.prefix.now.bits) o (held_in c.args.self.now s u)) (added s)
     ∙ stronger_there (s == c.args.session) (same_bits u c.args.prefix.now.bits) _ _ (λ o. Some (stronger c.args.mode o))
-      (λ e. sym (was (goal.at.returns-in-Some-clause-ok c).In-Some s) ∙ ap (held_in c.args.self.now s) (sym (same_prefix u c.args.prefix.now.bits e))))) c.add.ensures.ok
+    (λ e. sym (was (goal.at.returns-in-Some-clause-ok c).In-Some s) ∙ ap (held_in c.args.self.now s) (sym
+    (same_prefix u c.args.prefix.now.bits e))))) c.add.ensures.ok
 
 pub returns-in-Some-clause-err : goal.returns-in-Some-clause-err
 returns-in-Some-clause-err c =
@@ -36,7 +37,8 @@ returns-in-Some-clause-err c =
     err_alike c.add.result _ _ (λ same. same_file _ _ (λ s u.
     held_updated c.self.inside.units lent c.self.invariant holds.4 _ c.self.view_is c.args.prefix.now (Some c.add.new.self) (holds.3 found) s u
     ∙ same_there (same_bits u c.args.prefix.now.bits) _ _
-      (λ e. same s ∙ (sym (was (goal.at.returns-in-Some-clause-err c).In-Some s) ∙ ap (held_in c.args.self.now s) (sym (same_prefix u c.args.prefix.now.bits e)))))) c.add.ensures.err
+    (λ e. same s ∙ (sym (was (goal.at.returns-in-Some-clause-err c).In-Some s) ∙ ap (held_in c.args.self.now s) (sym
+    (same_prefix u c.args.prefix.now.bits e)))))) c.add.ensures.err
 
 -- a look-up that finds nothing leaves the file as it was
 unchanged : (c : In-None) → file_modes c.get_mut.follows.lender-at-none.entries ≡ c.args.self.now
@@ -53,7 +55,7 @@ returns-in-None-clause-ok c =
     let none = (goal.at.returns-in-None-clause-ok c).In-None in
     ok_alike c.start.result _ _ (λ started s u. started s u
     ∙ first_there (s == c.args.session) (same_bits u c.args.prefix.now.bits) c.args.mode _ _ (ap (λ f. held_in f s u) (unchanged none))
-      (λ e. ap (held_in c.args.self.now s) (same_prefix u c.args.prefix.now.bits e) ∙ nobody none s)) c.start.ensures.ok
+    (λ e. ap (held_in c.args.self.now s) (same_prefix u c.args.prefix.now.bits e) ∙ nobody none s)) c.start.ensures.ok
 
 pub returns-in-None-clause-err : goal.returns-in-None-clause-err
 returns-in-None-clause-err c = err_alike c.start.result _ _ (λ same. same ∙ unchanged (goal.at.returns-in-None-clause-err c).In-None) c.start.ensures.err

@@ -14,6 +14,7 @@ returns c =
     subst (λ (t : Locks). IsWeakened t c.args.session c.args.pred c.args.prefix.now.bits c.args.mode after) c.self.view_is
     (record {
       files = table_files files c.args.pred file c.weaken.new.self there c.index_mut-file.ensures.value;
-      modes = λ s d u. table_changed files c.args.pred file c.weaken.new.self there c.index_mut-file.ensures.value ((s == c.args.session) && same_bits u c.args.prefix.now.bits)
+      modes = λ s d u. table_changed files c.args.pred file c.weaken.new.self there c.index_mut-file.ensures.value
+          ((s == c.args.session) && same_bits u c.args.prefix.now.bits)
           c.args.mode c.args.mode s d u (λ _. refl) (c.weaken.ensures s u);
     })

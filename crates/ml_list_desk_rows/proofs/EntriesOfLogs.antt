@@ -58,7 +58,7 @@ numbered_by_entries ((Next k n, Item t) ∷ l) c i h = by (numbered_by_entries l
     by in_rest true e true f g = rw e (rw f refl)
     by in_rest true e false f g =
         let later : list_any (gave_numbered c i) l ≡ true =
-            sym (ap (λ x. (x && (n == i)) || list_any (gave_numbered c i) l) e ∙ ap (λ x. (true && x) || list_any (gave_numbered c i) l) f) ∙ g in
+        sym (ap (λ x. (x && (n == i)) || list_any (gave_numbered c i) l) e ∙ ap (λ x. (true && x) || list_any (gave_numbered c i) l) f) ∙ g in
         rw e (rw f (in_rest later))
     by in_rest false e q f g =
         let later : list_any (gave_numbered c i) l ≡ true = sym (ap (λ x. (x && (n == i)) || list_any (gave_numbered c i) l) e) ∙ g in

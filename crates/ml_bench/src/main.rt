@@ -4,6 +4,7 @@
 #![tactic(auto)]
 
 mod append;
+mod compare;
 mod copy;
 mod enter;
 mod evaluate;
@@ -21,6 +22,7 @@ mod tuples;
 mod unify;
 
 use append::append;
+use compare::compare;
 use copy::copy;
 use enter::enter;
 use evaluate::evaluate;
@@ -72,6 +74,7 @@ fn run_work(alloc: Global, work: &str, count: u32) -> Result<Option<bool>, Alloc
         "unify" => Ok(Some(unify(alloc, count)?)),
         "ground" => Ok(Some(ground(alloc, count)?)),
         "copy" => Ok(Some(copy(alloc, count)?)),
+        "compare" => Ok(Some(compare(alloc, count)?)),
         "enter" => Ok(Some(enter(alloc, count)?)),
         "evaluate" => Ok(Some(evaluate(alloc, count)?)),
         "read" => Ok(Some(read(alloc, count)?)),
@@ -120,7 +123,9 @@ fn tell_regions(
 // Tells what the words may be.
 fn usage(rt: &HostRuntime) -> io::Result<ExitCode> {
     println!(rt; "ml_bench WORK N, where WORK is one of")?;
-    println!(rt; "unify ground append copy enter evaluate read rules fill2 fill3 insert2 insert3")?;
+    println!(rt;
+        "unify ground append copy compare enter evaluate read rules fill2 fill3 insert2 insert3"
+    )?;
     println!(rt; "match2none match2first match2second match2both")?;
     println!(rt; "match3none match3first match3second match3both")?;
     println!(rt; "regions2none regions2first regions2second regions2both")?;

@@ -4,6 +4,7 @@ ghost use Rattle.ml_compile.specs.Spells.{SpellsClause};
 ghost use Rattle.ml_heap.specs.Changes.{AreCells, cell_count};
 ghost use Rattle.ml_search.specs.Program.{Clause, arity_of};
 
+use ml_builtin::{Binary, Outcome, Plain, Relation, run_builtin};
 use ml_compile::Instr;
 use ml_heap::{Heap, Ref, TreeStop};
 use std::alloc::AllocError;
@@ -51,4 +52,18 @@ pub fn enter_and_undo(
     let entered = ml_match::enter(heap, slots, todo, code, args)?;
     heap.undo_to(mark);
     Ok(entered.is_some())
+}
+
+/// Calls `==` on two cells and undoes it. The heap is then as it was.
+pub fn compare_and_undo(heap: &mut Heap, a: Ref, b: Ref) -> Result<bool, AllocError>
+    requires a_inside { a < cell_count heap.old }
+    requires b_inside { b < cell_count heap.old }
+    ensures { OnOk result (heap.new ≡ heap.old) }
+{
+    let mark = heap.mark();
+    let args = [a, b];
+    let equal = Plain::Two(Binary::Order(Relation::Equal));
+    let outcome = run_builtin(heap, equal, &args)?;
+    heap.undo_to(mark);
+    Ok(matches!(outcome, Outcome::Succeeded))
 }

@@ -7,6 +7,7 @@ pub mod AlikeStates
 pub mod TermsRunThrough
 pub mod FramesAsLevels
 pub mod LevelsBeforeTokens
+pub mod TokenLevels
 pub mod RunsWithinLimits
 pub mod ClausesWithinLimits
 pub mod TextsWithinLimits

@@ -13,7 +13,7 @@ use Rattle.ml_token.specs.declared.tokens.TokenFaultKind.TheVariants as token
 use Rattle.ml_reader.specs.Lexemes.{ClauseEnd, Lexeme, ReadClause, name, end}
 use Rattle.ml_reader.specs.Tokens.{TokenContext, lexeme, behind, is_tight, text_start, GoesOn}
 use Rattle.ml_reader.specs.Grammar.{IsText, Viable}
-use Rattle.ml_reader.specs.Levels.{Level, in_argument, Wants}
+use Rattle.ml_reader.specs.Levels.{Level, in_argument, Wants, OpenBefore, OpensLevel}
 use Rattle.ml_reader.specs.declared.fault.ReadFault.{ReadFault}
 use Rattle.ml_reader.specs.declared.fault.ReadKind.{ReadKind}
 use Rattle.ml_reader.specs.declared.fault.ReadKind.TheVariants as kind
@@ -46,12 +46,13 @@ pub data MayBeNext (bytes : List ℕ) (c : TokenContext) : Lexeme → Type 0 whe
   at_fault : {y : Lexeme} {e : TokenFault} → HasTokenFault bytes c.to e → MayBeNext bytes c y
 
 -- behind the token t, which stands behind xs, these levels are open. An operator's name opens one
--- where what may stand next makes neither an atom nor a functor of it
+-- where what may stand next makes neither an atom nor a functor of it, also where its priority
+-- doesn't fit
 pub record AreOpen (bytes : List ℕ) (xs : List Lexeme) (c : TokenContext) (t : Token)
     (ls : List Level) : Type 0 where
   pub following : Lexeme
   pub may : MayBeNext bytes (behind bytes c t) following
-  pub wants : Wants true (xs ++ lexeme bytes c t ∷ following ∷ []) (following ∷ []) ls
+  pub open_there : OpenBefore (xs ++ lexeme bytes c t ∷ following ∷ []) (following ∷ []) ls
 
 -- the tokens end with a bare `-` where a term begins
 abbrev pub EndsInMinus : List Lexeme → Type 0
@@ -66,6 +67,9 @@ pub data FaultBehind (bytes : List ℕ) (xs : List Lexeme) (c : TokenContext) : 
       → FaultBehind bytes xs c e.place (fault (read_kind_of e.kind) e.place)
   too_deep : {t : Token} {ls : List Level} → IsNext bytes c t → AreOpen bytes xs c t ls
       → max_text_levels < length ls → FaultBehind bytes xs c t.from (fault kind.TooDeep t.from)
+  refused_too_deep : {t : Token} {n : ℕ} → IsNext bytes c t
+      → (Viable true (xs ++ lexeme bytes c t ∷ []) → ⊥) → OpensLevel xs (lexeme bytes c t) n
+      → max_text_levels < n → FaultBehind bytes xs c t.from (fault kind.TooDeep t.from)
   many_arguments : {t : Token} {ls : List Level} {n : ℕ} → IsNext bytes c t
       → AreOpen bytes xs c t (in_argument n ∷ ls) → max_arguments < n
       → FaultBehind bytes xs c t.from (fault kind.ArityTooLarge t.from)

@@ -1,11 +1,12 @@
 -- Levels. One is opened by each `(`, `[` and `{` until its closing one, also where that follows at
 -- once, and by each prefix or infix operator until its right operand ends.
-use Rattle.std.specs.Prelude.{◌≡◌, ℕ, ◌+◌, max, Bool, true, false, not, IsTrue, List, [], ◌∷◌, Some}
+use Rattle.std.specs.Prelude.{◌≡◌, ℕ, ◌+◌, max, Bool, true, false, not, IsTrue, if◌then◌else◌}
+use Rattle.std.specs.Prelude.{nat_le, List, [], ◌∷◌, ◌++◌, length, Some, None}
 use Rattle.ml_term.specs.Tree.{Tree, Trees}
 use Rattle.ml_reader.specs.Lexemes.{ClauseEnd, ReadClause, Lexeme, open_paren, open_list}
 use Rattle.ml_reader.specs.Lexemes.{open_curly, head_tail_separator, comma, end}
 use Rattle.ml_reader.specs.Operators.{Operator, max_priority, max_argument_priority, prefix_of}
-use Rattle.ml_reader.specs.Operators.{infix_at, closes, priority_fits}
+use Rattle.ml_reader.specs.Operators.{is_operator, infix_at, closes, priority_fits}
 use Rattle.ml_reader.specs.Grammar.{Word, plain, brackets, curlies, joins, Derives, a_variable}
 use Rattle.ml_reader.specs.Grammar.{a_number, a_negative, in_braces, an_atom, a_compound, in_parens}
 use Rattle.ml_reader.specs.Grammar.{a_list, a_prefix, an_infix, Arguments, last_argument, argument}
@@ -73,6 +74,48 @@ pub data Wants (b : Bool) (xs : List Lexeme) : List Lexeme → List Level → Ty
       → infix_at (commas_inside ls) x ≡ Some o → IsTrue (priority_fits b p o.left)
       → IsTrue (priority_fits b o.priority (greatest_inside ls))
       → Wants b xs zs (right_of o.right ∷ ls)
+
+-- In front of ys, with which the tokens xs end, these levels are open: a term may begin there, or
+-- right before ys stands a prefix operator where a term may begin, whether or not its priority fits.
+pub data OpenBefore (xs : List Lexeme) : List Lexeme → List Level → Type 0 where
+  before_term : {ys : List Lexeme} {ls : List Level} → Wants true xs ys ls → OpenBefore xs ys ls
+  before_operand : {y : Lexeme} {ys zs : List Lexeme} {ls : List Level} {m : Bool} {f : List ℕ}
+      {o : Operator} → Wants true xs ys ls → Word ys (y ∷ zs) m f → prefix_of f ≡ Some o
+      → IsTrue (not (joins m (y ∷ zs))) → closes y ≡ false
+      → OpenBefore xs (y ∷ zs) (right_of o.right ∷ ls)
+
+-- the token is an opening bracket
+abbrev pub is_opening : Lexeme → Bool
+is_opening (open_paren k) = true
+is_opening open_list = true
+is_opening open_curly = true
+is_opening x = false
+
+-- the levels that an infix operator of priority p leaves open: it ends the operators before it whose
+-- right operands may not have this priority, up to the innermost bracket
+abbrev pub left_open : ℕ → List Level → List Level
+left_open p (right_of q ∷ ls) = if nat_le p q then right_of q ∷ ls else left_open p ls
+left_open p ls = ls
+
+-- The token x behind the tokens xs opens this level, whether or not the grammar goes on with it: a
+-- bracket where a term may begin, or behind a prefix operator; a bracket behind an operand, where
+-- the operators before the operand are still open, or behind the name of an operator that is no
+-- prefix operator and no atom; and an infix operator behind an operand. An operand of priority 0 is
+-- one that is no operator term, so it is the last one.
+pub data OpensLevel (xs : List Lexeme) (x : Lexeme) : ℕ → Type 0 where
+  bracket_of_term : {ls : List Level} → OpenBefore (xs ++ x ∷ []) (x ∷ []) ls
+      → IsTrue (is_opening x) → OpensLevel xs x (1 + length ls)
+  bracket_behind_operand : {ys : List Lexeme} {ls : List Level} {t : Tree}
+      → Wants true (xs ++ x ∷ []) ys ls → Derives true (commas_inside ls) ys (x ∷ []) 0 t
+      → IsTrue (is_opening x) → OpensLevel xs x (1 + length ls)
+  bracket_behind_name : {ys : List Lexeme} {ls : List Level} {m : Bool} {f : List ℕ}
+      → Wants true (xs ++ x ∷ []) ys ls → Word ys (x ∷ []) m f → IsTrue (is_operator f)
+      → prefix_of f ≡ None → IsTrue (not (joins m (x ∷ []))) → IsTrue (is_opening x)
+      → OpensLevel xs x (1 + length ls)
+  infix_behind_operand : {ys : List Lexeme} {ls : List Level} {t : Tree} {o : Operator}
+      → Wants true (xs ++ x ∷ []) ys ls → Derives true (commas_inside ls) ys (x ∷ []) 0 t
+      → infix_at (commas_inside ls) x ≡ Some o
+      → OpensLevel xs x (1 + length (left_open o.priority ls))
 
 -- how many levels a name opens: brackets with nothing between them are one
 abbrev pub levels_of_name : {xs ys : List Lexeme} {m : Bool} {f : List ℕ} → Word xs ys m f → ℕ

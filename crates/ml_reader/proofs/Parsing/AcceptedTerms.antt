@@ -67,7 +67,8 @@ module _ (b : Bool) (start : List Lexeme) where
   Holds (expect_term fs) ys = Begun fs ys
   Holds (after_open k fs) ys = (xs : List Lexeme) × Begun fs xs × (xs ≡ (if k then open_list else open_curly) ∷ ys)
   Holds (after_name m f fs) ys = (xs : List Lexeme) × Begun fs xs × Word xs ys m f
-  Holds (after_term p t fs) ys = (xs : List Lexeme) × Begun fs xs × Derives b (commas fs) xs ys p t × IsTrue (priority_fits b p (limit fs))
+  Holds (after_term p t fs) ys =
+      (xs : List Lexeme) × Begun fs xs × Derives b (commas fs) xs ys p t × IsTrue (priority_fits b p (limit fs)) × (p ≡ 0)
 
   abbrev pub HoldsAfter : Next → List Lexeme → Type 0
   HoldsAfter (Ok s) ys = Holds s ys
@@ -80,14 +81,14 @@ module _ (b : Bool) (start : List Lexeme) where
       → IsTrue (priority_fits b p (limit fs)) → HoldsAfter (finish_operand x t fs) ys
   ended_holds x t (prefix_frame f o ▹ fs) p xs ys g d h = ended_holds x (compound_1 f t) fs o.priority g.0 ys g.1 (g.3 (x ∷ ys) p t d h) g.2
   ended_holds x t (infix_frame o u ▹ fs) p xs ys g d h = ended_holds x (compound_2 o.name u t) fs o.priority g.0 ys g.1 (g.3 (x ∷ ys) p t d h) g.2
-  ended_holds close_paren t (parens ▹ fs) p xs ys g d h = (g.0, g.1, g.2 ys p t d h, zero_fits b (limit fs))
-  ended_holds close_curly t (braces ▹ fs) p xs ys g d h = (g.0, g.1, g.2 ys p t d h, zero_fits b (limit fs))
-  ended_holds close_paren t (arguments f ts ▹ fs) p xs ys g d h = (g.0, g.1, g.2 ys (tree t no_trees) (last_argument d h), zero_fits b (limit fs))
+  ended_holds close_paren t (parens ▹ fs) p xs ys g d h = (g.0, g.1, g.2 ys p t d h, zero_fits b (limit fs), refl)
+  ended_holds close_curly t (braces ▹ fs) p xs ys g d h = (g.0, g.1, g.2 ys p t d h, zero_fits b (limit fs), refl)
+  ended_holds close_paren t (arguments f ts ▹ fs) p xs ys g d h = (g.0, g.1, g.2 ys (tree t no_trees) (last_argument d h), zero_fits b (limit fs), refl)
   ended_holds comma t (arguments f ts ▹ fs) p xs ys g d h = (g.0, g.1, λ zs us us_d. g.2 zs (tree t us) (argument d h us_d), behind_argument g.3 d h)
   ended_holds comma t (list_elements ts ▹ fs) p xs ys g d h = (g.0, g.1, λ zs u es. g.2 zs (cell t u) (element d h es), behind_element g.3 d h)
   ended_holds head_tail_separator t (list_elements ts ▹ fs) p xs ys g d h = (g.0, g.1, λ zs q u e l. g.2 zs (cell t u) (before_bar d h e l), behind_bar g.3 d h)
-  ended_holds close_list t (list_elements ts ▹ fs) p xs ys g d h = (g.0, g.1, g.2 ys (cell t (atom brackets_name)) (last_element d h), zero_fits b (limit fs))
-  ended_holds close_list t (list_tail ts ▹ fs) p xs ys g d h = (g.0, g.1, g.2 ys p t d h, zero_fits b (limit fs))
+  ended_holds close_list t (list_elements ts ▹ fs) p xs ys g d h = (g.0, g.1, g.2 ys (cell t (atom brackets_name)) (last_element d h), zero_fits b (limit fs), refl)
+  ended_holds close_list t (list_tail ts ▹ fs) p xs ys g d h = (g.0, g.1, g.2 ys p t d h, zero_fits b (limit fs), refl)
   ended_holds (end n) t (root cs) p xs ys g d h = (behind_clause g.0 d h, λ us i. g.1 (clause_from n t ∷ us) (a_clause d h i))
   ended_holds x t fs p xs ys g d h = tt
 
@@ -131,8 +132,8 @@ module _ (b : Bool) (start : List Lexeme) where
 
   wanted_holds : (x : Lexeme) (fs : Stack) (ys : List Lexeme) → Begun fs (x ∷ ys) → HoldsAfter (begin_term x fs) ys
   wanted_holds (name q f) fs ys g = (name q f ∷ ys, g, plain)
-  wanted_holds (variable_lexeme n) fs ys g = (variable_lexeme n ∷ ys, g, a_variable, zero_fits b (limit fs))
-  wanted_holds (number k n) fs ys g = (number k n ∷ ys, g, a_number, zero_fits b (limit fs))
+  wanted_holds (variable_lexeme n) fs ys g = (variable_lexeme n ∷ ys, g, a_variable, zero_fits b (limit fs), refl)
+  wanted_holds (number k n) fs ys g = (number k n ∷ ys, g, a_number, zero_fits b (limit fs), refl)
   wanted_holds (open_paren k) fs ys g = (open_paren k ∷ ys, g, λ zs p t d h. in_parens d h, behind_paren (placed_in fs (open_paren k ∷ ys) g))
   wanted_holds open_list fs ys g = (open_list ∷ ys, g, refl)
   wanted_holds open_curly fs ys g = (open_curly ∷ ys, g, refl)
@@ -184,7 +185,7 @@ module _ (b : Bool) (start : List Lexeme) where
   after_word_holds : (m : Bool) (f : List ℕ) (x : Lexeme) (fs : Stack) (xs ys : List Lexeme) → Begun fs xs → Word xs (x ∷ ys) m f
       → HoldsAfter (follow_name b m f x fs) ys
   after_word_holds m f (open_paren true) fs xs ys g w = (xs, g, λ zs us us_d. a_compound w us_d, behind_functor (placed_in fs xs g) w)
-  after_word_holds true f (number true n) fs xs ys g w = (xs, g, a_negative w, zero_fits b (limit fs))
+  after_word_holds true f (number true n) fs xs ys g w = (xs, g, a_negative w, zero_fits b (limit fs), refl)
   after_word_holds m f x fs xs ys g w = operand_or_prefix_holds m f x fs xs ys g w refl (not (is_operator f) || closes x) refl
 
   step_holds : (s : State) (x : Lexeme) (ys : List Lexeme) → Holds s (x ∷ ys) → HoldsAfter (step b s x) ys

@@ -13,20 +13,21 @@ use Rattle.ml_reader.specs.Tokens.{TokenContext, lexeme, lexeme_of, behind, is_t
 use Rattle.ml_reader.specs.Grammar.{IsText, Viable}
 use Rattle.ml_reader.specs.inside.parser.Parser.{arguments, root, Stack, ◌▹◌, State, expect_term, after_open, after_name, after_term, limit, run_tokens}
 use Rattle.ml_reader.specs.inside.parser.Parser.{read_tokens}
-use Rattle.ml_reader.specs.Levels.{Level, in_argument, right_of, Wants}
+use Rattle.ml_reader.specs.Levels.{Level, in_argument, right_of, OpenBefore}
 use Rattle.ml_reader.specs.inside.parser.LimitedSteps.{depth, levels, opens_past, name_too_deep, makes_prefix, joins_minus, is_lone}
 use Rattle.ml_reader.specs.Texts.{are_short}
-use Rattle.ml_reader.specs.Faults.{fault, IsNext, MayBeNext, next, at_end, at_fault, AreOpen, EndsInMinus, FaultBehind, bad_token, too_deep, many_arguments}
+use Rattle.ml_reader.specs.Faults.{fault, IsNext, MayBeNext, next, at_end, at_fault, AreOpen, EndsInMinus, FaultBehind, bad_token, too_deep, refused_too_deep}
+use Rattle.ml_reader.specs.Faults.{many_arguments}
 use Rattle.ml_reader.specs.Faults.{long_clause, large_number, priority_clash, unexpected_token, cut_off, many_nodes, HasFault}
 use Rattle.ml_reader.specs.declared.fault.ReadFault.{ReadFault}
 use Rattle.ml_reader.specs.declared.fault.ReadKind.TheVariants.{TooDeep}
 use Rattle.ml_term.specs.Limits.{max_arguments, max_term_nodes, integer_offset}
 use Rattle.ml_reader.specs.Limits.{max_text_levels, max_clause_tokens}
-use Rattle.ml_reader.proofs.Parsing.OpenLevels.{opened, length_opened, fitted, prefix_path, path_before}
+use Rattle.ml_reader.proofs.Parsing.OpenLevels.{opened, length_opened, prefix_path, path_before}
 use Rattle.ml_reader.proofs.Parsing.StateCompletions.{viable}
 use Rattle.ml_reader.proofs.Parsing.TermsRunThrough.{reads, text_back}
 use Rattle.ml_reader.proofs.Parsing.FramesAsLevels.{same_some}
-use Rattle.ml_reader.proofs.Parsing.LevelsBeforeTokens.{path_of_wants, ends_in_minus}
+use Rattle.ml_reader.proofs.Parsing.LevelsBeforeTokens.{path_of_open, ends_in_minus}
 use Rattle.ml_reader.proofs.Parsing.RunsWithinLimits.{AreFew, is_moderate, Fine, Kept, kept_head}
 use Rattle.ml_reader.proofs.Parsing.TextBeginnings.{Stand, not_found, next_is, not_eof, behind_to, behind_last, Along, same, longer, shorter, along, goes_up}
 use Rattle.ml_reader.proofs.Parsing.TextBeginnings.{counted, goes_nowhere, FirstOfThem, first_of_them}
@@ -49,17 +50,11 @@ deep_name (after_name m f fs) y ls n e l = go (makes_prefix (after_name m f fs) 
   where
     go : (k : Bool) → makes_prefix (after_name m f fs) y ≡ k → (i : Option Operator) → prefix_of f ≡ i → prefix_path k i fs ≡ Some ls
         → IsDeepName (after_name m f fs) y
-    go true k (Some o) i e = fitting (priority_fits true o.priority (limit fs)) refl e
-      where
-        fitting : (j : Bool) → priority_fits true o.priority (limit fs) ≡ j → fitted j o fs ≡ Some ls → IsDeepName (after_name m f fs) y
-        fitting true j e =
-            record {
-              deep = ap (λ i. opens_past i fs) i
-                  ∙ and_from (nat_le o.priority (limit fs)) (nat_le max_text_levels (depth fs)) j
-                  (le-leb max_text_levels (depth fs) (let q = ap length (same_some e) in omega (arith, length_opened fs)));
-              prefix = k;
-            }
-        fitting false j e = absurd cc
+    go true k (Some o) i e =
+        record {
+          deep = ap (λ i. opens_past i fs) i ∙ le-leb max_text_levels (depth fs) (let q = ap length (same_some e) in omega (arith, length_opened fs));
+          prefix = k;
+        }
     go true k None i e = absurd cc
     go false k i j e = absurd cc
 deep_name (after_term p t fs) y ls m e l = absurd cc
@@ -75,19 +70,13 @@ deep_path (expect_term fs) y d = absurd (true≢false (sym d.deep))
 deep_path (after_open k fs) y d = absurd (true≢false (sym d.deep))
 deep_path (after_name m f fs) y d = go (prefix_of f) refl d.deep
   where
-    parts : (a b : Bool) → (a && b) ≡ true → (a ≡ true) × (b ≡ true)
-    parts true true e = (refl, refl)
-    parts true false e = absurd (true≢false (sym e))
-    parts false b e = absurd (true≢false (sym e))
-
     go : (i : Option Operator) → prefix_of f ≡ i → opens_past i fs ≡ true → DeepPath (after_name m f fs) y
     go None i e = absurd (true≢false (sym e))
     go (Some o) i e =
-        let h = parts (nat_le o.priority (limit fs)) (nat_le max_text_levels (depth fs)) e in
-        let l : max_text_levels ≤ depth fs = leb-true max_text_levels (depth fs) h.1 in
+        let l : max_text_levels ≤ depth fs = leb-true max_text_levels (depth fs) e in
         record {
           levels = right_of o.right ∷ opened fs;
-          path = ap (λ k. prefix_path k (prefix_of f) fs) d.prefix ∙ (ap (λ i. prefix_path true i fs) i ∙ ap (λ k. fitted k o fs) h.0);
+          path = ap (λ k. prefix_path k (prefix_of f) fs) d.prefix ∙ ap (λ i. prefix_path true i fs) i;
           many = omega (arith, length_opened fs);
         }
 deep_path (after_term p t fs) y d = absurd (true≢false (sym d.deep))
@@ -101,11 +90,7 @@ pub record InArgument (s : State) (n : ℕ) : Type 0 where
   pub count : 1 + arity trees ≡ n
 
 no_operator : (k : Bool) (i : Option Operator) (fs : Stack) (n : ℕ) (ls : List Level) → prefix_path k i fs ≡ Some (in_argument n ∷ ls) → ⊥
-no_operator true (Some o) fs n ls e = go (priority_fits true o.priority (limit fs)) e
-  where
-    go : (j : Bool) → fitted j o fs ≡ Some (in_argument n ∷ ls) → ⊥
-    go true e = absurd cc
-    go false e = absurd cc
+no_operator true (Some o) fs n ls e = absurd cc
 no_operator true None fs n ls e = absurd cc
 no_operator false i fs n ls e = absurd cc
 
@@ -160,6 +145,7 @@ module _ (bytes : List ℕ) (stand : Stand bytes) where
   pub met_after : {xs : List Lexeme} {c : TokenContext} {met : ℕ} {f : ReadFault} → FaultBehind bytes xs c met f → c.to ≤ length bytes → c.to ≤ met
   met_after {c = c} (bad_token {e = e} h) l = (stand.fault c.to e l h).0
   met_after {c = c} (too_deep {t = t} n o m) l = (stand.token c.to t l n.found).behind
+  met_after {c = c} (refused_too_deep {t = t} n v o m) l = (stand.token c.to t l n.found).behind
   met_after {c = c} (many_arguments {t = t} n o m) l = (stand.token c.to t l n.found).behind
   met_after {c = c} (long_clause {t = t} n m) l = (stand.token c.to t l n.found).behind
   met_after {c = c} (large_number {t = t} n k m i) l = (stand.token c.to t l n.found).behind
@@ -188,8 +174,8 @@ module _ (bytes : List ℕ) (stand : Stand bytes) where
 
     path_behind : (ls : List Level) (o : AreOpen bytes ys d t ls) → path_before at_it.behind_it o.following ≡ Some ls
     path_behind ls o =
-        path_of_wants (ys ++ lexeme bytes d t ∷ []) o.following at_it.behind_it ls read_it
-        (subst (λ l. Wants true l (o.following ∷ []) ls) (sym (append_assoc ys (lexeme bytes d t ∷ []) (o.following ∷ []))) o.wants)
+        path_of_open (ys ++ lexeme bytes d t ∷ []) o.following at_it.behind_it ls read_it
+        (subst (λ l. OpenBefore l (o.following ∷ []) ls) (sym (append_assoc ys (lexeme bytes d t ∷ []) (o.following ∷ []))) o.open_there)
 
     -- more levels than the limit behind it
     deep_it : {ls : List Level} → AreOpen bytes ys d t ls → max_text_levels < length ls → Where bytes xs c s t.from (fault TooDeep t.from)
@@ -250,6 +236,7 @@ module _ (bytes : List ℕ) (stand : Stand bytes) where
     earlier (too_deep {t = u} {ls = ls} m o l) =
         let e = next_is n m.found in
         subst (λ u. Where bytes xs c s u.from (fault TooDeep u.from)) e (deep_it (subst (λ u. AreOpen bytes ys d u ls) (sym e) o) l)
+    earlier (refused_too_deep {t = u} m v o l) = absurd (v (subst (λ u. Viable true (ys ++ lexeme bytes d u ∷ [])) (next_is n m.found) viable_it))
     earlier (many_arguments {t = u} {ls = ls} {n = i} m o l) =
         absurd (many_it (subst (λ u. AreOpen bytes ys d u (in_argument i ∷ ls)) (sym (next_is n m.found)) o) l)
     earlier (long_clause m l) = absurd (long_it l)

@@ -10,9 +10,10 @@ use Rattle.ml_reader.specs.Lexemes.{ReadClause, Lexeme}
 use Rattle.ml_reader.specs.Tokens.{TokenContext, lexeme, is_tight, text_start, GoesOn}
 use Rattle.ml_reader.specs.Grammar.{IsText, Viable}
 use Rattle.ml_reader.specs.inside.parser.Parser.{root, Stack, State, expect_term, read_tokens}
-use Rattle.ml_reader.specs.Levels.{Level, in_argument, Wants}
+use Rattle.ml_reader.specs.Levels.{Level, in_argument, OpenBefore, OpensLevel}
 use Rattle.ml_reader.specs.inside.parser.LimitedSteps.{name_too_deep}
 use Rattle.ml_reader.specs.Faults.{read_kind_of, fault, rank, IsNext, MayBeNext, next, at_end, at_fault, AreOpen, EndsInMinus, FaultBehind, bad_token, too_deep}
+use Rattle.ml_reader.specs.Faults.{refused_too_deep}
 use Rattle.ml_reader.specs.Faults.{many_arguments, long_clause, large_number, priority_clash, unexpected_token, cut_off, many_nodes, HasFault, HasFirstFault}
 use Rattle.ml_reader.specs.declared.fault.ReadFault.{ReadFault}
 use Rattle.ml_reader.specs.declared.fault.ReadKind.{ReadKind}
@@ -20,7 +21,7 @@ use Rattle.ml_reader.specs.declared.fault.ReadKind.TheVariants.{TooDeep, ArityTo
 use Rattle.ml_term.specs.Limits.{max_arguments, integer_offset}
 use Rattle.ml_reader.specs.Limits.{max_text_levels, max_clause_tokens}
 use Rattle.ml_reader.proofs.Parsing.StateCompletions.{viable}
-use Rattle.ml_reader.proofs.Parsing.LevelsBeforeTokens.{wants_before}
+use Rattle.ml_reader.proofs.Parsing.LevelsBeforeTokens.{open_before}
 use Rattle.ml_reader.proofs.Parsing.TextBeginnings.{Stand, not_found, same_first_fault, next_is, not_eof, behind_to, behind_last, goes_up, Last, last_token}
 use Rattle.ml_reader.proofs.Parsing.BeginningsWithinLimits.{Reading, reading_viable, same_state, split_run}
 use Rattle.ml_reader.proofs.Parsing.BeginningsWithoutFaults.{IsDeepName, deep_path, Where, pending, here, later, where_met, met_after}
@@ -74,10 +75,10 @@ module _ (bytes : List ℕ) (stand : Stand bytes) {xs : List Lexeme} {c : TokenC
       let k = l.last in
       let p : c.last ≡ k.token.from = ap (λ c. c.last) k.behind_it ∙ behind_last bytes k.context k.token k.next.some in
       let q = deep_path s y d in
-      let w : Wants true (k.front ++ lexeme bytes k.context k.token ∷ y ∷ []) (y ∷ []) q.levels =
-      subst (λ l. Wants true l (y ∷ []) q.levels) (ap (λ l. l ++ y ∷ []) k.whole ∙ append_assoc k.front (lexeme bytes k.context k.token ∷ []) (y ∷ []))
-      (wants_before xs y [] q.levels s r.parsed q.path) in
-      let o : AreOpen bytes k.front k.context k.token q.levels = record { following = y; may = subst (λ c. MayBeNext bytes c y) k.behind_it may; wants = w } in
+      let w : OpenBefore (k.front ++ lexeme bytes k.context k.token ∷ y ∷ []) (y ∷ []) q.levels =
+      subst (λ l. OpenBefore l (y ∷ []) q.levels) (ap (λ l. l ++ y ∷ []) k.whole ∙ append_assoc k.front (lexeme bytes k.context k.token ∷ []) (y ∷ []))
+      (open_before xs y [] q.levels s r.parsed q.path) in
+      let o : AreOpen bytes k.front k.context k.token q.levels = record { following = y; may = subst (λ c. MayBeNext bytes c y) k.behind_it may; open_there = w } in
       let h : HasFault bytes k.token.from (fault TooDeep k.token.from) = record {
         tokens = k.front;
         context = k.context;
@@ -109,6 +110,7 @@ module _ (bytes : List ℕ) (stand : Stand bytes) {xs : List Lexeme} {c : TokenC
       here_it : (other : ℕ) (g : ReadFault) → FaultBehind bytes xs c other g → Comes e.place (read_kind_of e.kind) other g.kind
       here_it other g (bad_token {e = e'} i) = let j = same_first_fault h i in same_fault_place (ap (λ e. e.place) j) (ap (λ e. read_kind_of e.kind) j)
       here_it other g (too_deep m o l) = absurd (not_found m.found h)
+      here_it other g (refused_too_deep m v o l) = absurd (not_found m.found h)
       here_it other g (many_arguments m o l) = absurd (not_found m.found h)
       here_it other g (long_clause m l) = absurd (not_found m.found h)
       here_it other g (large_number m k l j) = absurd (not_found m.found h)
@@ -130,6 +132,7 @@ module _ (bytes : List ℕ) (stand : Stand bytes) {xs : List Lexeme} {c : TokenC
       here_it : (other : ℕ) (g : ReadFault) → FaultBehind bytes xs c other g → Comes (length bytes) Unexpected other g.kind
       here_it other g (bad_token i) = absurd (not_found h i)
       here_it other g (too_deep m o l) = absurd (not_eof m h k)
+      here_it other g (refused_too_deep m v o l) = absurd (not_eof m h k)
       here_it other g (many_arguments m o l) = absurd (not_eof m h k)
       here_it other g (long_clause m l) = absurd (not_eof m h k)
       here_it other g (large_number m i l j) = absurd (not_eof m h k)
@@ -147,6 +150,7 @@ module _ (bytes : List ℕ) (stand : Stand bytes) {xs : List Lexeme} {c : TokenC
     -- which faults don't come before one of this rank at the next token
     pub record Ranks (k : ℕ) : Type 0 where
       pub deep : (ls : List Level) → AreOpen bytes xs c t ls → max_text_levels < length ls → k ≤ 6
+      pub refused : (i : ℕ) → (Viable true (xs ++ lexeme bytes c t ∷ []) → ⊥) → OpensLevel xs (lexeme bytes c t) i → max_text_levels < i → k ≤ 6
       pub many : (i : ℕ) (ls : List Level) → AreOpen bytes xs c t (in_argument i ∷ ls) → max_arguments < i → k ≤ 7
       pub long : max_clause_tokens ≤ c.tokens → k ≤ 8
       pub large : t.kind ≡ Number → integer_offset ≤ number_of bytes t → (is_tight c t ≡ true → EndsInMinus xs → ⊥) → k ≤ 9
@@ -164,6 +168,10 @@ module _ (bytes : List ℕ) (stand : Stand bytes) {xs : List Lexeme} {c : TokenC
         here_it : (other : ℕ) (g : ReadFault) → FaultBehind bytes xs c other g → Comes t.from f.kind other g.kind
         here_it other g (bad_token i) = absurd (not_found n.found i)
         here_it other g (too_deep {ls = ls} m o l) = at_place TooDeep m (q.deep ls (subst (λ u. AreOpen bytes xs c u ls) (sym (next_is n m.found)) o) l)
+        here_it other g (refused_too_deep {n = i} m v o l) =
+            let e = sym (next_is n m.found) in
+            at_place TooDeep m (q.refused i (subst (λ u. Viable true (xs ++ lexeme bytes c u ∷ []) → ⊥) e v)
+            (subst (λ u. OpensLevel xs (lexeme bytes c u) i) e o) l)
         here_it other g (many_arguments {ls = ls} {n = i} m o l) =
             at_place ArityTooLarge m (q.many i ls (subst (λ u. AreOpen bytes xs c u (in_argument i ∷ ls)) (sym (next_is n m.found)) o) l)
         here_it other g (long_clause m l) = at_place ClauseTooLong m (q.long l)

@@ -50,7 +50,7 @@ at_bottom (arguments f ts ▹ fs) e = absurd cc
 at_bottom (list_elements ts ▹ fs) e = absurd cc
 at_bottom (list_tail ts ▹ fs) e = absurd cc
 
-begun_more : (ys : List Lexeme) → Begins ys → IsMore ys
+pub begun_more : (ys : List Lexeme) → Begins ys → IsMore ys
 begun_more [] b = absurd b
 begun_more (y ∷ ys) b = tt
 
@@ -62,7 +62,7 @@ module _ (P : State → List Lexeme → Type 0) (forward : (s r : State) (x y : 
     at_bracket : {fs : Stack} {ys : List Lexeme} → P (after_open true fs) ys → Way (list_elements no_trees ▹ fs) ys
     at_brace : {fs : Stack} {ys : List Lexeme} → P (after_open false fs) ys → Way (braces ▹ fs) ys
 
-  go_in : {fs : Stack} (ys : List Lexeme) → Begins ys → Way fs ys → P (expect_term fs) ys
+  pub go_in : {fs : Stack} (ys : List Lexeme) → Begins ys → Way fs ys → P (expect_term fs) ys
   go_in ys b (straight h) = h
   go_in ys b (at_bracket {fs = fs} h) = C.carry_fresh P forward alike ys fs b h
   go_in ys b (at_brace {fs = fs} h) = C.carry_brace P forward alike ys fs b h

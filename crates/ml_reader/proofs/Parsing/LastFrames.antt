@@ -11,6 +11,7 @@ use Rattle.ml_reader.specs.inside.parser.Parser as P
 use Rattle.ml_reader.specs.inside.parser.Parser.{◌▹◌}
 use Rattle.ml_reader.specs.Seen.{reversed_trees, operator_seen, lexeme_seen}
 use Rattle.ml_reader.specs.inside.parser.Frames.{few, bracket_seen, frame_seen, stack_on, stack}
+use Rattle.ml_reader.specs.inside.parser.LimitedSteps.{frames_left}
 use Rattle.ml_reader.specs.declared.parser.operators.OperatorPriorities.{OperatorPriorities}
 use Rattle.ml_reader.specs.declared.parser.lexeme.Lexeme.{Lexeme as Token}
 use Rattle.ml_reader.specs.declared.parser.lexeme.Lexeme.TheVariants as T
@@ -84,9 +85,43 @@ commas_bracket (B.Arguments a) fs = refl
 commas_bracket (B.ListElements ts) fs = refl
 commas_bracket (B.ListTail ts) fs = refl
 
+left_bracket : (p : ℕ) (b : Bracket) (fs : P.Stack) → frames_left p (bracket_seen b ▹ fs) ≡ bracket_seen b ▹ fs
+left_bracket p B.Parens fs = refl
+left_bracket p B.Braces fs = refl
+left_bracket p (B.Arguments a) fs = refl
+left_bracket p (B.ListElements ts) fs = refl
+left_bracket p (B.ListTail ts) fs = refl
+
 -- what the last frame of a vector is, on the stack
 top : (old new : List Frame) (f f' : Frame) → old ≡ new ++ (f ∷ []) → f ≡ f' → stack old ≡ frame_seen f' ▹ stack new
 top old new f f' e e' = ap stack e ∙ (stack_last new f ∙ ap (λ g. frame_seen g ▹ stack new) e')
+
+-- what an infix operator of this priority leaves of a vector's frames, by the last one
+module _ (p : ℕ) (old new : List Frame) (fr : Frame) (e : old ≡ new ++ (fr ∷ [])) where
+  pub left_open : (b : Bracket) → fr ≡ F.Open b → frames_left p (stack old) ≡ stack old
+  left_open b i = let h = top old new fr (F.Open b) e i in ap (frames_left p) h ∙ (left_bracket p b (stack new) ∙ sym h)
+
+  pub left_prefix : (f : List ℕ) (s : OperatorPriorities) → fr ≡ F.Prefix f s → p ≤ s.right → frames_left p (stack old) ≡ stack old
+  left_prefix f s i l =
+      let h = top old new fr (F.Prefix f s) e i in
+      ap (frames_left p) h
+      ∙ (ap (λ k. if k then frame_seen (F.Prefix f s) ▹ stack new else frames_left p (stack new)) (le-leb p s.right l) ∙ sym h)
+
+  pub ends_prefix : (f : List ℕ) (s : OperatorPriorities) → fr ≡ F.Prefix f s → s.right < p → frames_left p (stack old) ≡ frames_left p (stack new)
+  ends_prefix f s i l =
+      ap (frames_left p) (top old new fr (F.Prefix f s) e i)
+      ∙ ap (λ k. if k then frame_seen (F.Prefix f s) ▹ stack new else frames_left p (stack new)) (leb_not p s.right l)
+
+  pub left_infix : (f : List ℕ) (s : OperatorPriorities) (t : Term) → fr ≡ F.Infix f s t → p ≤ s.right → frames_left p (stack old) ≡ stack old
+  left_infix f s t i l =
+      let h = top old new fr (F.Infix f s t) e i in
+      ap (frames_left p) h
+      ∙ (ap (λ k. if k then frame_seen (F.Infix f s t) ▹ stack new else frames_left p (stack new)) (le-leb p s.right l) ∙ sym h)
+
+  pub ends_infix : (f : List ℕ) (s : OperatorPriorities) (t : Term) → fr ≡ F.Infix f s t → s.right < p → frames_left p (stack old) ≡ frames_left p (stack new)
+  ends_infix f s t i l =
+      ap (frames_left p) (top old new fr (F.Infix f s t) e i)
+      ∙ ap (λ k. if k then frame_seen (F.Infix f s t) ▹ stack new else frames_left p (stack new)) (leb_not p s.right l)
 
 module _ (old new : List Frame) (fr : Frame) (t t' : Term) (e : old ≡ new ++ (fr ∷ [])) where
   pub ended_before : (x : Lexeme) (f : List ℕ) (s : OperatorPriorities) → fr ≡ F.Prefix f s → seen t' ≡ compound_1 f (seen t)

@@ -12,7 +12,7 @@ use Rattle.ml_reader.specs.inside.parser.Parser.{infix_operator, follow_term_as,
 use Rattle.ml_reader.specs.inside.parser.Parser.{follow_name, step}
 use Rattle.ml_reader.specs.inside.parser.LimitedSteps.{depth, levels}
 use Rattle.ml_reader.specs.Limits.{max_text_levels}
-use Rattle.ml_reader.proofs.Parsing.OpenLevels.{length_opened, fitted, prefix_path, path_before}
+use Rattle.ml_reader.proofs.Parsing.OpenLevels.{length_opened, prefix_path, path_before}
 use Rattle.ml_reader.proofs.Parsing.RunsWithinLimits.{AreFew}
 
 -- how many levels a state has
@@ -89,7 +89,7 @@ bracket_low false close_curly fs l = (omega arith, tt)
 bracket_low true x fs l = wanted_low x (list_elements no_trees ▹ fs) l
 bracket_low false x fs l = wanted_low x (braces ▹ fs) l
 
-put_low : (x : Lexeme) (k : Bool) (f : List ℕ) (o : Operator) (fs : Stack) → AreFew (fitted k o fs) → IsLow x (place_prefix k f o x fs)
+put_low : (x : Lexeme) (k : Bool) (f : List ℕ) (o : Operator) (fs : Stack) → AreFew (prefix_path true (Some o) fs) → IsLow x (place_prefix k f o x fs)
 put_low x true f o fs l = wanted_low x (prefix_frame f o ▹ fs) (omega (arith, l, length_opened fs))
 put_low x false f o fs l = tt
 

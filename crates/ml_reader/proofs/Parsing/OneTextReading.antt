@@ -13,7 +13,8 @@ use Rattle.ml_reader.specs.inside.parser.Parser.{root, State, expect_term}
 use Rattle.ml_reader.specs.Reading.{Reads}
 use Rattle.ml_reader.specs.Texts.{IsRead}
 use Rattle.ml_reader.specs.inside.parser.Turns.{ReadOutcome, reads_on, ends_between, finds_fault, read_outcome}
-use Rattle.ml_reader.specs.Faults.{read_kind_of, fault, rank, IsNext, FaultBehind, bad_token, too_deep, many_arguments, long_clause, large_number}
+use Rattle.ml_reader.specs.Faults.{read_kind_of, fault, rank, IsNext, FaultBehind, bad_token, too_deep, refused_too_deep}
+use Rattle.ml_reader.specs.Faults.{many_arguments, long_clause, large_number}
 use Rattle.ml_reader.specs.Faults.{priority_clash, unexpected_token, cut_off, many_nodes, HasFault, HasFirstFault}
 use Rattle.ml_reader.specs.declared.fault.ReadFault.{ReadFault}
 use Rattle.ml_reader.specs.declared.fault.ReadKind.{ReadKind}
@@ -91,6 +92,7 @@ module _ (bytes : List ℕ) where
         here_it : {met : ℕ} {f : ReadFault} → FaultBehind bytes r.tokens h.context met f → ⊥
         here_it (bad_token e) = not_found h.found e
         here_it (too_deep n o l) = not_eof n h.found h.is_end
+        here_it (refused_too_deep n v o l) = not_eof n h.found h.is_end
         here_it (many_arguments n o l) = not_eof n h.found h.is_end
         here_it (long_clause n l) = not_eof n h.found h.is_end
         here_it (large_number n k l j) = not_eof n h.found h.is_end
@@ -108,6 +110,7 @@ module _ (bytes : List ℕ) where
     place_met : {xs : List Lexeme} {c : TokenContext} {met : ℕ} {f : ReadFault} → FaultBehind bytes xs c met f → (f.place ≡ met) ⊎ (f.kind ≡ kind.TooManyNodes)
     place_met (bad_token e) = inl refl
     place_met (too_deep n o l) = inl refl
+    place_met (refused_too_deep n v o l) = inl refl
     place_met (many_arguments n o l) = inl refl
     place_met (long_clause n l) = inl refl
     place_met (large_number n k l j) = inl refl
@@ -140,6 +143,7 @@ module _ (bytes : List ℕ) where
     nodes_here : {xs : List Lexeme} {c : TokenContext} {met : ℕ} {f : ReadFault} → FaultBehind bytes xs c met f → f.kind ≡ kind.TooManyNodes → Nodes xs c met f
     nodes_here (bad_token {e = e} h) i = absurd (not_nodes e.kind i)
     nodes_here (too_deep n o l) i = absurd cc
+    nodes_here (refused_too_deep n v o l) i = absurd cc
     nodes_here (many_arguments n o l) i = absurd cc
     nodes_here (long_clause n l) i = absurd cc
     nodes_here (large_number n k l j) i = absurd cc

@@ -3,11 +3,11 @@ use Rattle.std.specs.Prelude.{◌≡◌, ◌+◌, Bool, true, false, List, [], �
 use Rattle.std.proofs.Common.{refl, arith}
 use Rattle.ml_term.specs.Tree.{arity}
 use Rattle.ml_reader.specs.Lexemes.{Lexeme}
-use Rattle.ml_reader.specs.Operators.{Operator, prefix_of, priority_fits}
+use Rattle.ml_reader.specs.Operators.{Operator, prefix_of}
 use Rattle.ml_reader.specs.inside.parser.Parser.{prefix_frame, infix_frame, parens, braces, arguments, list_elements, list_tail, Stack, root, ◌▹◌, State}
 use Rattle.ml_reader.specs.inside.parser.Parser.{expect_term, after_open, after_name, after_term, commas, limit, step}
 use Rattle.ml_reader.specs.Levels.{Level, enclosed, in_argument, in_list, in_tail, right_of, commas_inside, greatest_inside}
-use Rattle.ml_reader.specs.inside.parser.LimitedSteps.{depth, makes_prefix, is_lone}
+use Rattle.ml_reader.specs.inside.parser.LimitedSteps.{depth, makes_prefix, token_too_deep, is_lone}
 
 -- the levels of frames
 abbrev pub opened : Stack → List Level
@@ -51,17 +51,12 @@ length_opened (arguments f ts ▹ fs) = omega (arith, length_opened fs)
 length_opened (list_elements ts ▹ fs) = omega (arith, length_opened fs)
 length_opened (list_tail ts ▹ fs) = omega (arith, length_opened fs)
 
--- the levels of an operator that fits, or none
-abbrev pub fitted : Bool → Operator → Stack → Option (List Level)
-fitted true o fs = Some (right_of o.right ∷ opened fs)
-fitted false o fs = None
-
 -- the levels of a name that is a prefix operator, or none
 abbrev pub prefix_path : Bool → Option Operator → Stack → Option (List Level)
-prefix_path true (Some o) fs = fitted (priority_fits true o.priority (limit fs)) o fs
+prefix_path true (Some o) fs = Some (right_of o.right ∷ opened fs)
 prefix_path k m fs = None
 
--- the levels that are open in front of a token where a term may begin
+-- the levels that are open in front of a token where a term may begin, or would behind a prefix operator that doesn't fit
 abbrev pub path_before : State → Lexeme → Option (List Level)
 path_before (expect_term fs) x = Some (opened fs)
 path_before (after_open true fs) x = Some (in_list ∷ opened fs)
@@ -73,4 +68,5 @@ path_before (after_term p t fs) x = None
 pub record Alike (s r : State) (x : Lexeme) : Type 0 where
   pub same_step : step true s x ≡ step true r x
   pub same_path : path_before s x ≡ path_before r x
+  pub same_past : token_too_deep s x ≡ token_too_deep r x
   pub same_lone : is_lone s x ≡ is_lone r x

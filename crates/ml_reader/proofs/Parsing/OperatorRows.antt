@@ -59,6 +59,13 @@ third_of o k = IsTrue (if k then nat_lt o.left o.priority else nat_lt o.right o.
 third : (o : Operator) → IsTrue (lawful o) → third_of o (right_first o.priority)
 third o h = (both (nat_le o.right o.priority) _ (both (nat_le o.left o.priority) _ h).1).1
 
+pub positive : (o : Operator) → IsTrue (lawful o) → 0 < o.priority
+positive o h = go (right_first o.priority) (third o h)
+  where
+    go : (k : Bool) → third_of o k → 0 < o.priority
+    go true i = let j : o.left < o.priority = ltb-true _ _ i in omega arith
+    go false i = let j : o.right < o.priority = ltb-true _ _ i in omega arith
+
 differ : (p q : ℕ) → right_first p ≡ true → right_first q ≡ false → p ≢ q
 differ p q e e' i = true≢false (sym e ∙ (ap right_first i ∙ e'))
 

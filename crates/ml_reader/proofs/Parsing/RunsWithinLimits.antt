@@ -49,7 +49,7 @@ fine_alike s r x a f =
     }
 
 pub alike_sym : {s r : State} {x : Lexeme} → Alike s r x → Alike r s x
-alike_sym a = record { same_step = sym a.same_step; same_path = sym a.same_path; same_lone = sym a.same_lone }
+alike_sym a = record { same_step = sym a.same_step; same_path = sym a.same_path; same_past = sym a.same_past; same_lone = sym a.same_lone }
 
 pub kept_tail : {s r : State} {x : Lexeme} {xs : List Lexeme} → step true s x ≡ Ok r → Kept s (x ∷ xs) → Kept r xs
 kept_tail {xs = xs} e (kept f e' k) = subst (λ s. Kept s xs) (same_state (sym e' ∙ e)) k

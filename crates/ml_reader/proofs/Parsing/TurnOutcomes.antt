@@ -21,12 +21,14 @@ use Rattle.ml_reader.specs.inside.parser.Parser.{run_tokens, read_tokens}
 use Rattle.ml_reader.specs.inside.parser.Parser as P
 use Rattle.ml_reader.specs.inside.parser.Frames.{has_many, few}
 use Rattle.ml_reader.specs.declared.parser.frames.Refusal.TheVariants.{ManyArguments}
-use Rattle.ml_reader.specs.Levels.{Level, enclosed, in_argument, in_list, Wants}
+use Rattle.ml_reader.specs.Levels.{Level, enclosed, in_argument, in_list, OpenBefore}
 use Rattle.ml_reader.specs.inside.parser.LimitedSteps.{depth, levels, opens_past, name_too_deep, makes_prefix, joins_minus, is_lone, LimitedOutcome, to_state}
+use Rattle.ml_reader.specs.inside.parser.LimitedSteps.{token_too_deep}
 use Rattle.ml_reader.specs.inside.parser.LimitedSteps.{name_over_limit, fault_at, clause_within_nodes, too_many, stop_within_limits, check_limits, limited_step}
 use Rattle.ml_reader.specs.inside.parser.Turns.{ReadOutcome, reads_on, ends_between, finds_fault, is_eof, is_between, over_limit_kind, stays_open}
 use Rattle.ml_reader.specs.inside.parser.Turns.{outcome_of_step, place_at, outcome_at_end, outcome_at, read_outcome}
 use Rattle.ml_reader.specs.Faults.{read_kind_of, fault, rank, IsNext, MayBeNext, next, at_end, at_fault, AreOpen, EndsInMinus, FaultBehind, too_deep}
+use Rattle.ml_reader.specs.Faults.{refused_too_deep}
 use Rattle.ml_reader.specs.Faults.{many_arguments, long_clause, large_number, priority_clash, unexpected_token, many_nodes, HasFirstFault}
 use Rattle.ml_reader.specs.declared.fault.ReadFault.{ReadFault}
 use Rattle.ml_reader.specs.declared.fault.ReadKind.{ReadKind}
@@ -38,7 +40,8 @@ use Rattle.ml_reader.proofs.Parsing.StateCompletions.{viable}
 use Rattle.ml_reader.proofs.Parsing.AcceptedTerms.{sound}
 use Rattle.ml_reader.proofs.Parsing.ExactAnswers.{stuck, right_kind, no_text_yet}
 use Rattle.ml_reader.proofs.Parsing.OpenLevels.{opened, length_opened, path_before}
-use Rattle.ml_reader.proofs.Parsing.LevelsBeforeTokens.{path_of_wants, no_wants, wants_before, minus_read, ends_in_minus}
+use Rattle.ml_reader.proofs.Parsing.LevelsBeforeTokens.{path_of_open, none_open, open_before, minus_read, ends_in_minus}
+use Rattle.ml_reader.proofs.Parsing.TokenLevels.{past_of_opens, opens_of_past}
 use Rattle.ml_reader.proofs.Parsing.RunsWithinLimits.{AreFew, is_moderate}
 use Rattle.ml_reader.proofs.Parsing.ClauseEnds.{IsEndToken, EndsClause, step_ends}
 use Rattle.ml_reader.proofs.Parsing.LevelsAfterOperands.{height, IsOther, IsLow, step_low}
@@ -130,13 +133,13 @@ module _ (bytes : List ℕ) (stand : Stand bytes) {xs : List Lexeme} {c : TokenC
     -- the levels behind it are the parser's
     path_behind : {s' : State} {ls : List Level} → step true s (lexeme bytes c t) ≡ Ok s' → (o : AreOpen bytes xs c t ls) → path_before s' o.following ≡ Some ls
     path_behind {s'} {ls} i o =
-        path_of_wants (xs ++ lexeme bytes c t ∷ []) o.following s' ls (read_on i) (subst (λ l. Wants true l (o.following ∷ []) ls)
-        (sym (append_assoc xs (lexeme bytes c t ∷ []) (o.following ∷ []))) o.wants)
+        path_of_open (xs ++ lexeme bytes c t ∷ []) o.following s' ls (read_on i) (subst (λ l. OpenBefore l (o.following ∷ []) ls)
+        (sym (append_assoc xs (lexeme bytes c t ∷ []) (o.following ∷ []))) o.open_there)
 
     none_behind : {k : Fault} {ls : List Level} → step true s (lexeme bytes c t) ≡ Err k → AreOpen bytes xs c t ls → ⊥
     none_behind {k} {ls} i o =
-        no_wants (xs ++ lexeme bytes c t ∷ []) o.following k ls (one_more (Ok (expect_term (root []))) xs s (lexeme bytes c t) r.parsed ∙ i)
-        (subst (λ l. Wants true l (o.following ∷ []) ls) (sym (append_assoc xs (lexeme bytes c t ∷ []) (o.following ∷ []))) o.wants)
+        none_open (xs ++ lexeme bytes c t ∷ []) o.following k ls (one_more (Ok (expect_term (root []))) xs s (lexeme bytes c t) r.parsed ∙ i)
+        (subst (λ l. OpenBefore l (o.following ∷ []) ls) (sym (append_assoc xs (lexeme bytes c t ∷ []) (o.following ∷ []))) o.open_there)
 
     -- levels of the parser are open behind it
     open_behind : {s' : State} {ls : List Level} (y : Lexeme) → MayBeNext bytes (behind bytes c t) y → step true s (lexeme bytes c t) ≡ Ok s'
@@ -144,7 +147,7 @@ module _ (bytes : List ℕ) (stand : Stand bytes) {xs : List Lexeme} {c : TokenC
     open_behind {s'} {ls} y may i p = record {
       following = y;
       may = may;
-      wants = subst (λ l. Wants true l (y ∷ []) ls) (append_assoc xs (lexeme bytes c t ∷ []) (y ∷ [])) (wants_before (xs ++ lexeme bytes c t ∷ []) y [] ls s'
+      open_there = subst (λ l. OpenBefore l (y ∷ []) ls) (append_assoc xs (lexeme bytes c t ∷ []) (y ∷ [])) (open_before (xs ++ lexeme bytes c t ∷ []) y [] ls s'
           (read_on i) p);
     }
 
@@ -183,11 +186,12 @@ module _ (bytes : List ℕ) (stand : Stand bytes) {xs : List Lexeme} {c : TokenC
     abbrev SaidAtTurn : LimitedOutcome → Type 0
     SaidAtTurn o = SaysAtToken (outcome_of_step bytes (behind bytes c t) o)
 
-    refused_ranks : (k : Fault) → step true s (lexeme bytes c t) ≡ Err k → (m : ℕ) → (max_clause_tokens ≤ c.tokens → m ≤ 8)
+    refused_ranks : (k : Fault) → step true s (lexeme bytes c t) ≡ Err k → (m : ℕ) → (token_too_deep s (lexeme bytes c t) ≡ true → m ≤ 6) → (max_clause_tokens ≤ c.tokens → m ≤ 8)
         → (is_lone s (lexeme bytes c t) ≡ true → m ≤ 9) → (Viable false (xs ++ lexeme bytes c t ∷ []) → m ≤ 10) → m ≤ 11
         → Ranks bytes stand r t n m
-    refused_ranks k i m l a v e = record {
+    refused_ranks k i m d l a v e = record {
       deep = λ ls o h. absurd (none_behind i o);
+      refused = λ j w o h. d (past_of_opens xs (lexeme bytes c t) s j r.parsed o h);
       many = λ j ls o h. absurd (none_behind i o);
       long = l;
       large = λ j h q. large_rank (is_lone s (lexeme bytes c t)) refl j h q;
@@ -202,27 +206,35 @@ module _ (bytes : List ℕ) (stand : Stand bytes) {xs : List Lexeme} {c : TokenC
         large_rank false e j h q = absurd (no_large e j h q)
 
     stopped_said : (k : Fault) (f : ReadKind) → step true s (lexeme bytes c t) ≡ Err k
-        → (is_lone s (lexeme bytes c t) ≡ false → nat_le max_clause_tokens c.tokens ≡ false → HasFirstFault bytes (fault f t.from))
-        → SaidAtTurn (stop_within_limits (place_at c t) (is_lone s (lexeme bytes c t)) f)
+        → (token_too_deep s (lexeme bytes c t) ≡ false → is_lone s (lexeme bytes c t) ≡ false → nat_le max_clause_tokens c.tokens ≡ false
+        → HasFirstFault bytes (fault f t.from))
+        → SaidAtTurn (stop_within_limits (place_at c t) (token_too_deep s (lexeme bytes c t)) (is_lone s (lexeme bytes c t)) f)
     stopped_said k f i h =
-        if_cases SaidAtTurn (nat_le max_clause_tokens c.tokens) (fault_at ClauseTooLong t.from) _
-        (λ e. first (fault ClauseTooLong t.from) (refused_ranks k i 8 (λ l. omega arith) (λ l. omega arith) (λ l. omega arith) (omega arith))
+        if_cases SaidAtTurn (token_too_deep s (lexeme bytes c t)) (fault_at TooDeep t.from) _
+        (λ d. let o = opens_of_past xs (lexeme bytes c t) s k r.parsed i d in
+        first (fault TooDeep t.from) (refused_ranks k i 6 (λ l. omega arith) (λ l. omega arith) (λ l. omega arith) (λ l. omega arith) (omega arith))
+        (refused_too_deep n (stuck xs s r.parsed (lexeme bytes c t) k i) o.1 o.2))
+        (λ d. if_cases SaidAtTurn (nat_le max_clause_tokens c.tokens) (fault_at ClauseTooLong t.from) _
+        (λ e. first (fault ClauseTooLong t.from) (refused_ranks k i 8 (λ l. absurd (true≢false (sym l ∙ d))) (λ l. omega arith) (λ l. omega arith)
+        (λ l. omega arith) (omega arith))
         (long_clause n (leb-true max_clause_tokens c.tokens e)))
         (λ e. if_cases SaidAtTurn (is_lone s (lexeme bytes c t)) (fault_at NumberTooLarge t.from) (fault_at f t.from)
-        (λ a. first (fault NumberTooLarge t.from) (refused_ranks k i 9 (λ l. absurd (no_long e l)) (λ l. omega arith) (λ l. omega arith) (omega arith))
+        (λ a. first (fault NumberTooLarge t.from) (refused_ranks k i 9 (λ l. absurd (true≢false (sym l ∙ d))) (λ l. absurd (no_long e l)) (λ l. omega arith)
+        (λ l. omega arith) (omega arith))
         (large_here a))
-        (λ a. h a e))
+        (λ a. h d a e)))
 
     -- the parser refuses it
-    err_said : (k : Fault) → step true s (lexeme bytes c t) ≡ Err k → SaidAtTurn (check_limits (place_at c t) (is_lone s (lexeme bytes c t)) (few (Err k)))
+    err_said : (k : Fault) → step true s (lexeme bytes c t) ≡ Err k → SaidAtTurn (check_limits (place_at c t)
+        (token_too_deep s (lexeme bytes c t)) (is_lone s (lexeme bytes c t)) (few (Err k)))
     err_said P.clash i =
-        stopped_said P.clash PriorityClash i (λ a e.
-        first (fault PriorityClash t.from) (refused_ranks P.clash i 10 (λ l. absurd (no_long e l)) (λ b. absurd (true≢false (sym b ∙ a))) (λ v. omega arith)
+        stopped_said P.clash PriorityClash i (λ d a e.
+        first (fault PriorityClash t.from) (refused_ranks P.clash i 10 (λ l. absurd (true≢false (sym l ∙ d))) (λ l. absurd (no_long e l)) (λ b. absurd (true≢false (sym b ∙ a))) (λ v. omega arith)
         (omega arith))
         (priority_clash n (stuck xs s r.parsed (lexeme bytes c t) P.clash i) (right_kind xs s r.parsed (lexeme bytes c t) P.clash i)))
     err_said P.unexpected i =
-        stopped_said P.unexpected Unexpected i (λ a e.
-        first (fault Unexpected t.from) (refused_ranks P.unexpected i 11 (λ l. absurd (no_long e l)) (λ b. absurd (true≢false (sym b ∙ a)))
+        stopped_said P.unexpected Unexpected i (λ d a e.
+        first (fault Unexpected t.from) (refused_ranks P.unexpected i 11 (λ l. absurd (true≢false (sym l ∙ d))) (λ l. absurd (no_long e l)) (λ b. absurd (true≢false (sym b ∙ a)))
         (λ v. absurd (right_kind xs s r.parsed (lexeme bytes c t) P.unexpected i v)) (omega arith))
         (unexpected_token n (stuck xs s r.parsed (lexeme bytes c t) P.unexpected i) (right_kind xs s r.parsed (lexeme bytes c t) P.unexpected i)))
 
@@ -233,6 +245,7 @@ module _ (bytes : List ℕ) (stand : Stand bytes) {xs : List Lexeme} {c : TokenC
         → (is_lone s (lexeme bytes c t) ≡ true → m ≤ 9) → m ≤ 12 → Ranks bytes stand r t n m
     taken_ranks {s'} i m d a l b e = record {
       deep = d;
+      refused = λ j v o h. absurd (v (viable_on i));
       many = λ j ls o h. many_rank (has_many s') refl j ls o h;
       long = l;
       large = λ j h q. large_rank (is_lone s (lexeme bytes c t)) refl j h q;
@@ -406,7 +419,7 @@ module _ (bytes : List ℕ) (stand : Stand bytes) {xs : List Lexeme} {c : TokenC
     no_name (after_term p u fs) a h d = true≢false (sym d)
 
     fine_said : (s' : State) → step true s (lexeme bytes c t) ≡ Ok s' → EndsClause (lexeme bytes c t) (Ok s') → has_many s' ≡ false
-        → SaidAtTurn (check_limits (place_at c t) (is_lone s (lexeme bytes c t)) (Ok s'))
+        → SaidAtTurn (check_limits (place_at c t) (token_too_deep s (lexeme bytes c t)) (is_lone s (lexeme bytes c t)) (Ok s'))
     fine_said s' i j m =
         if_cases SaidAtTurn (nat_lt max_text_levels (levels s')) (fault_at TooDeep t.from) _
         (λ d. let y = some_next bytes (behind bytes c t) in let q = many_levels s' y.0 (ltb-true max_text_levels (levels s') d) in
@@ -424,9 +437,9 @@ module _ (bytes : List ℕ) (stand : Stand bytes) {xs : List Lexeme} {c : TokenC
         (λ a. sized_said s' i j m l e a)))
 
     step_said : (q : Next) → step true s (lexeme bytes c t) ≡ q → EndsClause (lexeme bytes c t) q
-        → SaidAtTurn (check_limits (place_at c t) (is_lone s (lexeme bytes c t)) (few q))
+        → SaidAtTurn (check_limits (place_at c t) (token_too_deep s (lexeme bytes c t)) (is_lone s (lexeme bytes c t)) (few q))
     step_said (Err k) i j = err_said k i
-    step_said (Ok s') i j = if_cases (λ q. SaidAtTurn (check_limits (place_at c t) (is_lone s (lexeme bytes c t)) q)) (has_many s') (Err ManyArguments) (Ok s')
+    step_said (Ok s') i j = if_cases (λ q. SaidAtTurn (check_limits (place_at c t) (token_too_deep s (lexeme bytes c t)) (is_lone s (lexeme bytes c t)) q)) (has_many s') (Err ManyArguments) (Ok s')
         (λ m. many_said s' i m) (λ m. fine_said s' i j m)
 
   token_says : (t : Token) → IsNext bytes c t → SaysAtToken (outcome_of_step bytes (behind bytes c t) (limited_step (place_at c t) s (lexeme bytes c t)))

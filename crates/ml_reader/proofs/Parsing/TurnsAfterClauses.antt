@@ -6,13 +6,14 @@ use Rattle.ml_token.specs.inside.Tokens.{first_token}
 use Rattle.ml_token.specs.declared.tokens.Token.{Token}
 use Rattle.ml_token.specs.declared.tokens.TokenFault.{TokenFault}
 use Rattle.ml_reader.specs.Lexemes.{ReadClause, Lexeme, number}
-use Rattle.ml_reader.specs.Operators.{Operator, prefix_of}
+use Rattle.ml_reader.specs.Operators.{Operator, prefix_of, infix_at}
 use Rattle.ml_reader.specs.Tokens.{TokenContext, lexeme, behind}
-use Rattle.ml_reader.specs.inside.parser.Parser.{prefix_frame, infix_frame, parens, braces, arguments, list_elements, list_tail, Stack, root, ◌▹◌, State}
-use Rattle.ml_reader.specs.inside.parser.Parser.{expect_term, after_open, after_name, after_term, clash, unexpected, Next, limit, step}
+use Rattle.ml_reader.specs.inside.parser.Parser.{Frame, prefix_frame, infix_frame, parens, braces, arguments, list_elements, list_tail, Stack, root, ◌▹◌, State}
+use Rattle.ml_reader.specs.inside.parser.Parser.{expect_term, after_open, after_name, after_term, clash, unexpected, Next, commas, step}
 use Rattle.ml_reader.specs.inside.parser.Frames.{has_many, few}
 use Rattle.ml_term.specs.Tree.{nodes}
-use Rattle.ml_reader.specs.inside.parser.LimitedSteps.{depth, levels, opens_past, name_too_deep, makes_prefix, joins_minus, is_lone, LimitedOutcome, to_state}
+use Rattle.ml_reader.specs.inside.parser.LimitedSteps.{depth, levels, opens_past, frames_left, bracket_past, operator_past, past_operand}
+use Rattle.ml_reader.specs.inside.parser.LimitedSteps.{past_prefix, past_name, token_past, token_too_deep, name_too_deep, makes_prefix, joins_minus, is_lone, LimitedOutcome, to_state}
 use Rattle.ml_reader.specs.inside.parser.LimitedSteps.{name_over_limit, to_fault, fault_at, clause_within_nodes, too_many, stop_within_limits, check_limits}
 use Rattle.ml_reader.specs.inside.parser.LimitedSteps.{limited_step}
 use Rattle.ml_reader.specs.inside.parser.Turns.{ReadOutcome, reads_on, ends_between, finds_fault, is_eof, is_between, over_limit_kind, stays_open}
@@ -25,7 +26,7 @@ use Rattle.ml_reader.specs.declared.fault.ReadKind.TheVariants.{TooDeep, ClauseT
 use Rattle.ml_term.specs.Limits.{max_term_nodes, integer_offset}
 use Rattle.ml_reader.specs.Limits.{max_text_levels, max_clause_tokens}
 use Rattle.ml_reader.specs.declared.parser.limited.TokenPlace.{TokenPlace}
-use Rattle.ml_reader.proofs.Parsing.ClausesBefore.{over, state_over, next_over, limit_over, step_over}
+use Rattle.ml_reader.proofs.Parsing.ClausesBefore.{over, state_over, next_over, commas_over, step_over}
 use Rattle.ml_reader.proofs.Parsing.ClauseEnds.{EndsClause, step_ends}
 
 module _ (ws : List ReadClause) where
@@ -47,10 +48,14 @@ module _ (ws : List ReadClause) where
   depth_over (root ds) = refl
   depth_over (f ▹ fs) = ap (λ n. 1 + n) (depth_over fs)
 
+  if_depth : (k : Bool) (f : Frame) (fs gs hs : Stack) → depth gs ≡ depth hs
+      → depth (if k then f ▹ over ws fs else gs) ≡ depth (if k then f ▹ fs else hs)
+  if_depth true f fs gs hs e = ap (λ n. 1 + n) (depth_over fs)
+  if_depth false f fs gs hs e = e
+
   past_over : (m : Option Operator) (fs : Stack) → opens_past m (over ws fs) ≡ opens_past m fs
   past_over None fs = refl
-  past_over (Some o) fs = ap (λ l. nat_le o.priority l && nat_le max_text_levels (depth (over ws fs))) (limit_over ws fs)
-      ∙ ap (λ d. nat_le o.priority (limit fs) && nat_le max_text_levels d) (depth_over fs)
+  past_over (Some o) fs = ap (λ d. nat_le max_text_levels d) (depth_over fs)
 
   deep_over : (s : State) → name_too_deep (state_over ws s) ≡ name_too_deep s
   deep_over (expect_term fs) = refl
@@ -63,6 +68,33 @@ module _ (ws : List ReadClause) where
   prefix_over (after_open k fs) x = refl
   prefix_over (after_name m f fs) x = refl
   prefix_over (after_term p t fs) x = refl
+
+  left_over : (p : ℕ) (fs : Stack) → depth (frames_left p (over ws fs)) ≡ depth (frames_left p fs)
+  left_over p (root ds) = refl
+  left_over p (prefix_frame f o ▹ fs) = if_depth (nat_le p o.right) (prefix_frame f o) fs _ _ (left_over p fs)
+  left_over p (infix_frame o t ▹ fs) = if_depth (nat_le p o.right) (infix_frame o t) fs _ _ (left_over p fs)
+  left_over p (f ▹ fs) = ap (λ n. 1 + n) (depth_over fs)
+
+  operator_over : (m : Option Operator) (x : Lexeme) (fs : Stack) → operator_past m x (over ws fs) ≡ operator_past m x fs
+  operator_over None x fs = ap (bracket_past x) (depth_over fs)
+  operator_over (Some o) x fs = ap (nat_le max_text_levels) (left_over o.priority fs)
+
+  operand_over : (x : Lexeme) (fs : Stack) → past_operand x (over ws fs) ≡ past_operand x fs
+  operand_over x fs = ap (λ c. operator_past (infix_at c x) x (over ws fs)) (commas_over ws fs) ∙ operator_over (infix_at (commas fs) x) x fs
+
+  name_over : (k : Bool) (f : List ℕ) (x : Lexeme) (fs : Stack) → past_name k f x (over ws fs) ≡ past_name k f x fs
+  name_over false f x fs = operand_over x fs
+  name_over true f x fs = go (prefix_of f)
+    where
+      go : (m : Option Operator) → past_prefix m x (over ws fs) ≡ past_prefix m x fs
+      go None = ap (bracket_past x) (depth_over fs)
+      go (Some o) = ap (λ n. bracket_past x (1 + n)) (depth_over fs)
+
+  token_over : (k : Bool) (s : State) (x : Lexeme) → token_past k (state_over ws s) x ≡ token_past k s x
+  token_over k (expect_term fs) x = ap (bracket_past x) (depth_over fs)
+  token_over k (after_open j fs) x = ap (λ n. bracket_past x (1 + n)) (depth_over fs)
+  token_over k (after_name m f fs) x = name_over k f x fs
+  token_over k (after_term p t fs) x = operand_over x fs
 
   levels_over : (s : State) → levels (state_over ws s) ≡ levels s
   levels_over (expect_term fs) = depth_over fs
@@ -135,18 +167,14 @@ module _ (ws : List ReadClause) where
   too_many_over h s = ap (λ k. if k then name_over_limit (state_over ws s) else fault_at ClauseTooLong h.place) (deep_over s)
       ∙ if_over (name_too_deep s) (name_over_limit s) (fault_at ClauseTooLong h.place)
 
-  stopped_over : (h : TokenPlace) (lone : Bool) (k : ReadKind) → stop_within_limits h lone k ≡ outcome_over (stop_within_limits h lone k)
-  stopped_over h lone k = go (nat_le max_clause_tokens h.tokens) lone
-    where
-      go : (a b : Bool) → (if a then fault_at ClauseTooLong h.place else (if b then fault_at NumberTooLarge h.place else fault_at k h.place)) ≡ outcome_over
-          (if a then fault_at ClauseTooLong h.place else (if b then fault_at NumberTooLarge h.place else fault_at k h.place))
-      go true b = refl
-      go false true = refl
-      go false false = refl
+  stopped_over : (h : TokenPlace) (deep lone : Bool) (k : ReadKind) → stop_within_limits h deep lone k ≡ outcome_over (stop_within_limits h deep lone k)
+  stopped_over h deep lone k =
+      chosen_over deep (nat_le max_clause_tokens h.tokens) lone (fault_at TooDeep h.place) (fault_at ClauseTooLong h.place) (fault_at NumberTooLarge h.place)
+      (fault_at k h.place)
 
-  fine_over : (h : TokenPlace) (lone : Bool) (x : Lexeme) (s : State) → EndsClause x (Ok s)
-      → check_limits h lone (Ok (state_over ws s)) ≡ outcome_over (check_limits h lone (Ok s))
-  fine_over h lone x s e =
+  fine_over : (h : TokenPlace) (deep lone : Bool) (x : Lexeme) (s : State) → EndsClause x (Ok s)
+      → check_limits h deep lone (Ok (state_over ws s)) ≡ outcome_over (check_limits h deep lone (Ok s))
+  fine_over h deep lone x s e =
       let a : LimitedOutcome = fault_at TooDeep h.place in
       let c : LimitedOutcome = fault_at NumberTooLarge h.place in
       ap (λ n. chosen (nat_lt max_text_levels n) (nat_le max_clause_tokens h.tokens) lone a (too_many h (state_over ws s)) c
@@ -156,29 +184,35 @@ module _ (ws : List ReadClause) where
       ∙ ap (λ d. chosen (nat_lt max_text_levels (levels s)) (nat_le max_clause_tokens h.tokens) lone a (outcome_over (too_many h s)) c d) (sized_over x s e)
       ∙ chosen_over (nat_lt max_text_levels (levels s)) (nat_le max_clause_tokens h.tokens) lone a (too_many h s) c (clause_within_nodes s)
 
-  checked_over : (h : TokenPlace) (lone : Bool) (x : Lexeme) (n : Next) → EndsClause x n
-      → check_limits h lone (few (next_over ws n)) ≡ outcome_over (check_limits h lone (few n))
-  checked_over h lone x (Err clash) e = stopped_over h lone PriorityClash
-  checked_over h lone x (Err unexpected) e = stopped_over h lone Unexpected
-  checked_over h lone x (Ok s) e = ap (check_limits h lone) (few_over (Ok s)) ∙ go (has_many s)
+  checked_over : (h : TokenPlace) (deep lone : Bool) (x : Lexeme) (n : Next) → EndsClause x n
+      → check_limits h deep lone (few (next_over ws n)) ≡ outcome_over (check_limits h deep lone (few n))
+  checked_over h deep lone x (Err clash) e = stopped_over h deep lone PriorityClash
+  checked_over h deep lone x (Err unexpected) e = stopped_over h deep lone Unexpected
+  checked_over h deep lone x (Ok s) e = ap (check_limits h deep lone) (few_over (Ok s)) ∙ go (has_many s)
     where
       go : (k : Bool)
-          → check_limits h lone (result_over (if k then Err ManyArguments else Ok s)) ≡ outcome_over
-          (check_limits h lone (if k then Err ManyArguments else Ok s))
+          → check_limits h deep lone (result_over (if k then Err ManyArguments else Ok s)) ≡ outcome_over
+          (check_limits h deep lone (if k then Err ManyArguments else Ok s))
       go true = refl
-      go false = fine_over h lone x s e
+      go false = fine_over h deep lone x s e
 
   limited_over : (h : TokenPlace) (s : State) (x : Lexeme) → limited_step h (state_over ws s) x ≡ outcome_over (limited_step h s x)
   limited_over h s x =
-      ap (λ k. if k then fault_at TooDeep h.last else check_limits h (is_lone (state_over ws s) x) (few (step true (state_over ws s) x)))
+      ap (λ k. if k then fault_at TooDeep h.last else check_limits h (token_too_deep (state_over ws s) x) (is_lone (state_over ws s) x)
+      (few (step true (state_over ws s) x)))
       (ap (λ k. k && name_too_deep (state_over ws s)) (prefix_over s x) ∙ ap (λ k. makes_prefix s x && k) (deep_over s))
       ∙ ap (λ o. if makes_prefix s x && name_too_deep s then fault_at TooDeep h.last else o) rest_over
-      ∙ if_over (makes_prefix s x && name_too_deep s) (fault_at TooDeep h.last) (check_limits h (is_lone s x) (few (step true s x)))
+      ∙ if_over (makes_prefix s x && name_too_deep s) (fault_at TooDeep h.last) (check_limits h (token_too_deep s x) (is_lone s x) (few (step true s x)))
     where
-      rest_over : check_limits h (is_lone (state_over ws s) x) (few (step true (state_over ws s) x)) ≡ outcome_over
-          (check_limits h (is_lone s x) (few (step true s x)))
-      rest_over = ap (λ k. check_limits h k (few (step true (state_over ws s) x))) (lone_over s x)
-          ∙ ap (λ n. check_limits h (is_lone s x) (few n)) (step_over ws true s x) ∙ checked_over h (is_lone s x) x (step true s x) (step_ends s x)
+      past_it : token_too_deep (state_over ws s) x ≡ token_too_deep s x
+      past_it = ap (λ k. token_past k (state_over ws s) x) (prefix_over s x) ∙ token_over (makes_prefix s x) s x
+
+      rest_over : check_limits h (token_too_deep (state_over ws s) x) (is_lone (state_over ws s) x) (few (step true (state_over ws s) x)) ≡ outcome_over
+          (check_limits h (token_too_deep s x) (is_lone s x) (few (step true s x)))
+      rest_over = ap (λ d. check_limits h d (is_lone (state_over ws s) x) (few (step true (state_over ws s) x))) past_it
+          ∙ (ap (λ k. check_limits h (token_too_deep s x) k (few (step true (state_over ws s) x))) (lone_over s x)
+          ∙ (ap (λ n. check_limits h (token_too_deep s x) (is_lone s x) (few n)) (step_over ws true s x)
+          ∙ checked_over h (token_too_deep s x) (is_lone s x) x (step true s x) (step_ends s x)))
 
   module _ (bytes : List ℕ) where
     open_over : (c : TokenContext) (s : State) (r : Result Token TokenFault) → stays_open bytes c (state_over ws s) r ≡ stays_open bytes c s r

@@ -2,6 +2,7 @@
 ghost use Rattle.std.specs.Prelude.{◌≡◌, []};
 ghost use Rattle.ml_reader.specs.inside.parser.Parser.{root, ◌▹◌, commas, limit};
 ghost use Rattle.ml_reader.specs.inside.parser.Frames.{bracket_seen, stack};
+ghost use Rattle.ml_reader.specs.inside.parser.LimitedSteps.{depth, frames_left};
 
 use crate::parser::frames::{Bracket, Frame};
 use crate::parser::operators::{MAX_ARGUMENT_PRIORITY, MAX_PRIORITY};
@@ -54,5 +55,31 @@ pub fn limit(frames: &[Frame]) -> u16
         Some((Frame::Prefix(_, s), _)) => s.right,
         Some((Frame::Infix(_, s, _), _)) => s.right,
         Some((Frame::Open(bracket), _)) => limit_in(bracket),
+    }
+}
+
+/// How many levels an infix operator of this priority leaves open: it ends the operators before it
+/// whose right operands may not have this priority, up to the innermost bracket.
+pub fn levels_left(frames: &[Frame], priority: u16) -> usize
+    ensures { result ≡ depth (frames_left priority (stack frames.now)) }
+{
+    let mut rest = frames;
+    loop {
+        match rest.split_last() {
+            None => return 0,
+            Some((Frame::Open(_), _)) => return rest.len(),
+            Some((Frame::Prefix(_, s), below)) => {
+                if priority <= s.right {
+                    return rest.len();
+                }
+                rest = below;
+            }
+            Some((Frame::Infix(_, s, _), below)) => {
+                if priority <= s.right {
+                    return rest.len();
+                }
+                rest = below;
+            }
+        }
     }
 }

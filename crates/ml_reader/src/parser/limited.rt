@@ -1,22 +1,25 @@
 //! The parser within the limits of a text.
-ghost use Rattle.std.specs.Prelude.{◌≡◌, ◌&&◌, Err, IfOk, List, Ok, [], ◌∷◌};
+ghost use Rattle.std.specs.Prelude.{◌≡◌, Err, IfOk, List, Ok, [], ◌∷◌, false};
 ghost use Rattle.ml_reader.specs.inside.parser.Parser.{root, expect_term};
 ghost use Rattle.ml_reader.specs.inside.parser.Frames.{stack, state_seen};
 ghost use Rattle.ml_reader.specs.Grammar.{joins};
 ghost use Rattle.ml_reader.specs.Operators.{prefix_of};
 ghost use Rattle.ml_reader.specs.Seen.{lexeme_seen, read_seen};
-ghost use Rattle.ml_reader.specs.inside.parser.LimitedSteps.{check_limits, fault_at, is_lone};
-ghost use Rattle.ml_reader.specs.inside.parser.LimitedSteps.{joins_minus, stop_within_limits};
-ghost use Rattle.ml_reader.specs.inside.parser.LimitedSteps.{levels, limited_step, makes_prefix};
-ghost use Rattle.ml_reader.specs.inside.parser.LimitedSteps.{name_too_deep, opens_past, too_many};
+ghost use Rattle.ml_reader.specs.Levels.{is_opening};
+ghost use Rattle.ml_reader.specs.inside.parser.LimitedSteps.{bracket_past, check_limits, fault_at};
+ghost use Rattle.ml_reader.specs.inside.parser.LimitedSteps.{is_lone, joins_minus, levels};
+ghost use Rattle.ml_reader.specs.inside.parser.LimitedSteps.{limited_step, makes_prefix};
+ghost use Rattle.ml_reader.specs.inside.parser.LimitedSteps.{name_too_deep, opens_past, past_operand};
+ghost use Rattle.ml_reader.specs.inside.parser.LimitedSteps.{past_prefix, stop_within_limits};
+ghost use Rattle.ml_reader.specs.inside.parser.LimitedSteps.{token_past, too_many};
 ghost use Rattle.ml_reader.specs.inside.parser.LimitsSeen.{limited_step_seen};
 
 use crate::fault::{ReadFault, ReadKind};
 use crate::limits::{MAX_CLAUSE_TOKENS, MAX_TEXT_LEVELS};
 use crate::parser::frames::{Frame, Next, Refusal, State};
-use crate::parser::innermost::limit;
+use crate::parser::innermost::{commas, levels_left};
 use crate::parser::lexeme::{Lexeme, Read};
-use crate::parser::operators::{is_operator, prefix_of};
+use crate::parser::operators::{COMMA, infix_of, is_operator, prefix_of};
 use crate::parser::{closes, step};
 use ml_term::{MAX_TERM_NODES, Name, nodes_up_to};
 use ml_token::MAX_NUMBER;
@@ -75,7 +78,7 @@ fn opens_past_limit(name: &Name, frames: &[Frame]) -> bool
 {
     match prefix_of(name) {
         None => false,
-        Some(s) => s.priority <= limit(frames) && frames.len() >= MAX_TEXT_LEVELS,
+        Some(_) => frames.len() >= MAX_TEXT_LEVELS,
     }
 }
 
@@ -86,6 +89,72 @@ pub fn name_too_deep(state: &State) -> bool
     match state {
         State::AfterName(_, name, frames) => opens_past_limit(name, frames.as_slice()),
         _ => false,
+    }
+}
+
+// Whether a token is an opening bracket.
+fn is_opening(lexeme: &Lexeme) -> bool
+    ensures { result ≡ is_opening (lexeme_seen lexeme.now) }
+{
+    match lexeme {
+        Lexeme::OpenParen(_) => true,
+        Lexeme::OpenList => true,
+        Lexeme::OpenCurly => true,
+        _ => false,
+    }
+}
+
+// Whether a bracket opens a level past the limit where so many are open.
+fn bracket_past(lexeme: &Lexeme, count: usize) -> bool
+    ensures { result ≡ bracket_past (lexeme_seen lexeme.now) count }
+{
+    is_opening(lexeme) && count >= MAX_TEXT_LEVELS
+}
+
+// Whether a bracket or an infix operator behind an operand opens a level past the limit.
+fn past_operand(lexeme: &Lexeme, frames: &[Frame]) -> bool
+    ensures { result ≡ past_operand (lexeme_seen lexeme.now) (stack frames.now) }
+{
+    if frames.len() < MAX_TEXT_LEVELS {
+        return false;
+    }
+    match lexeme {
+        Lexeme::Name(_, name) => match infix_of(name) {
+            None => false,
+            Some(s) => levels_left(frames, s.priority) >= MAX_TEXT_LEVELS,
+        },
+        Lexeme::Comma => commas(frames) && levels_left(frames, COMMA.priority) >= MAX_TEXT_LEVELS,
+        other => bracket_past(other, frames.len()),
+    }
+}
+
+// Whether a bracket behind an operator's name that is no atom opens a level past the limit.
+fn past_prefix(name: &Name, lexeme: &Lexeme, frames: &[Frame]) -> bool
+    ensures { result ≡ past_prefix (prefix_of name.now) (lexeme_seen lexeme.now)
+        (stack frames.now) }
+{
+    match prefix_of(name) {
+        None => bracket_past(lexeme, frames.len()),
+        Some(_) => bracket_past(lexeme, 1 + frames.len()),
+    }
+}
+
+// Whether a token opens a level past the limit, as a bracket or an infix operator. `prefix`: it
+// makes a prefix operator of the name before it, if that is one.
+fn token_past(prefix: bool, state: &State, lexeme: &Lexeme) -> bool
+    ensures { result ≡ token_past prefix (state_seen state.now) (lexeme_seen lexeme.now) }
+{
+    match state {
+        State::ExpectTerm(frames) => bracket_past(lexeme, frames.len()),
+        State::AfterOpen(_, frames) => bracket_past(lexeme, 1 + frames.len()),
+        State::AfterName(_, name, frames) => {
+            if prefix {
+                past_prefix(name, lexeme, frames.as_slice())
+            } else {
+                past_operand(lexeme, frames.as_slice())
+            }
+        }
+        State::AfterTerm(_, _, frames) => past_operand(lexeme, frames.as_slice()),
     }
 }
 
@@ -140,7 +209,7 @@ fn too_many(here: TokenPlace, next: State) -> LimitedStep
 
 // A token that the parser takes.
 fn within(here: TokenPlace, lone: bool, next: State) -> LimitedStep
-    ensures { limited_step_seen result ≡ check_limits here lone (Ok (state_seen next)) }
+    ensures { limited_step_seen result ≡ check_limits here false lone (Ok (state_seen next)) }
 {
     if levels(&next) > MAX_TEXT_LEVELS {
         stop(ReadKind::TooDeep, here.place)
@@ -155,7 +224,7 @@ fn within(here: TokenPlace, lone: bool, next: State) -> LimitedStep
 
 // A token that ends a clause.
 fn ended_clause(here: TokenPlace, lone: bool, read: Read) -> LimitedStep
-    ensures { limited_step_seen result ≡ check_limits here lone
+    ensures { limited_step_seen result ≡ check_limits here false lone
         (Ok (expect_term (root (read_seen read ∷ [])))) }
 {
     if here.tokens >= MAX_CLAUSE_TOKENS {
@@ -169,11 +238,14 @@ fn ended_clause(here: TokenPlace, lone: bool, read: Read) -> LimitedStep
     }
 }
 
-// A token that the grammar refuses, unless a limit stands before that.
-fn stop_within_limits(here: TokenPlace, lone: bool, kind: ReadKind) -> LimitedStep
-    ensures { limited_step_seen result ≡ stop_within_limits here lone kind }
+// A token that the grammar refuses, unless a limit stands before that. `deep`: it opens a level past
+// the limit.
+fn stop_within_limits(here: TokenPlace, deep: bool, lone: bool, kind: ReadKind) -> LimitedStep
+    ensures { limited_step_seen result ≡ stop_within_limits here deep lone kind }
 {
-    if here.tokens >= MAX_CLAUSE_TOKENS {
+    if deep {
+        stop(ReadKind::TooDeep, here.place)
+    } else if here.tokens >= MAX_CLAUSE_TOKENS {
         stop(ReadKind::ClauseTooLong, here.place)
     } else if lone {
         stop(ReadKind::NumberTooLarge, here.place)
@@ -183,13 +255,13 @@ fn stop_within_limits(here: TokenPlace, lone: bool, kind: ReadKind) -> LimitedSt
 }
 
 // A token that the parser refuses.
-fn refuse(here: TokenPlace, lone: bool, refusal: Refusal) -> LimitedStep
-    ensures { limited_step_seen result ≡ check_limits here lone (Err refusal) }
+fn refuse(here: TokenPlace, deep: bool, lone: bool, refusal: Refusal) -> LimitedStep
+    ensures { limited_step_seen result ≡ check_limits here deep lone (Err refusal) }
 {
     match refusal {
         Refusal::ManyArguments => stop(ReadKind::ArityTooLarge, here.place),
-        Refusal::Clash => stop_within_limits(here, lone, ReadKind::PriorityClash),
-        Refusal::Unexpected => stop_within_limits(here, lone, ReadKind::Unexpected),
+        Refusal::Clash => stop_within_limits(here, deep, lone, ReadKind::PriorityClash),
+        Refusal::Unexpected => stop_within_limits(here, deep, lone, ReadKind::Unexpected),
     }
 }
 
@@ -203,13 +275,15 @@ pub fn limited_step(
     ensures { IfOk result (λ r.
         limited_step_seen r ≡ limited_step here (state_seen state) (lexeme_seen lexeme)) }
 {
-    if makes_prefix(&state, &lexeme) && name_too_deep(&state) {
+    let prefix = makes_prefix(&state, &lexeme);
+    if prefix && name_too_deep(&state) {
         return Ok(stop(ReadKind::TooDeep, here.last));
     }
+    let deep = token_past(prefix, &state, &lexeme);
     let lone = is_lone(&state, &lexeme);
     match step(alloc, state, lexeme)? {
         Next::Go(next) => Ok(within(here, lone, next)),
         Next::Clause(read) => Ok(ended_clause(here, lone, read)),
-        Next::Stop(refusal) => Ok(refuse(here, lone, refusal)),
+        Next::Stop(refusal) => Ok(refuse(here, deep, lone, refusal)),
     }
 }

@@ -76,7 +76,8 @@ pub data Wants (b : Bool) (xs : List Lexeme) : List Lexeme → List Level → Ty
       → Wants b xs zs (right_of o.right ∷ ls)
 
 -- In front of ys, with which the tokens xs end, these levels are open: a term may begin there, or
--- right before ys stands a prefix operator where a term may begin, whether or not its priority fits.
+-- right before ys stands a prefix operator where a term may begin, whether or not its priority
+-- fits.
 pub data OpenBefore (xs : List Lexeme) : List Lexeme → List Level → Type 0 where
   before_term : {ys : List Lexeme} {ls : List Level} → Wants true xs ys ls → OpenBefore xs ys ls
   before_operand : {y : Lexeme} {ys zs : List Lexeme} {ls : List Level} {m : Bool} {f : List ℕ}
@@ -91,8 +92,8 @@ is_opening open_list = true
 is_opening open_curly = true
 is_opening x = false
 
--- the levels that an infix operator of priority p leaves open: it ends the operators before it whose
--- right operands may not have this priority, up to the innermost bracket
+-- the levels that an infix operator of priority p leaves open: it ends the operators before it
+-- whose right operands may not have this priority, up to the innermost bracket
 abbrev pub left_open : ℕ → List Level → List Level
 left_open p (right_of q ∷ ls) = if nat_le p q then right_of q ∷ ls else left_open p ls
 left_open p ls = ls

@@ -87,7 +87,8 @@ module _ (b : Bool) (start : List Lexeme) where
   ended_holds comma t (arguments f ts ▹ fs) p xs ys g d h = (g.0, g.1, λ zs us us_d. g.2 zs (tree t us) (argument d h us_d), behind_argument g.3 d h)
   ended_holds comma t (list_elements ts ▹ fs) p xs ys g d h = (g.0, g.1, λ zs u es. g.2 zs (cell t u) (element d h es), behind_element g.3 d h)
   ended_holds head_tail_separator t (list_elements ts ▹ fs) p xs ys g d h = (g.0, g.1, λ zs q u e l. g.2 zs (cell t u) (before_bar d h e l), behind_bar g.3 d h)
-  ended_holds close_list t (list_elements ts ▹ fs) p xs ys g d h = (g.0, g.1, g.2 ys (cell t (atom brackets_name)) (last_element d h), zero_fits b (limit fs), refl)
+  ended_holds close_list t (list_elements ts ▹ fs) p xs ys g d h =
+      (g.0, g.1, g.2 ys (cell t (atom brackets_name)) (last_element d h), zero_fits b (limit fs), refl)
   ended_holds close_list t (list_tail ts ▹ fs) p xs ys g d h = (g.0, g.1, g.2 ys p t d h, zero_fits b (limit fs), refl)
   ended_holds (end n) t (root cs) p xs ys g d h = (behind_clause g.0 d h, λ us i. g.1 (clause_from n t ∷ us) (a_clause d h i))
   ended_holds x t fs p xs ys g d h = tt

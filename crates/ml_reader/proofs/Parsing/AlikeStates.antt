@@ -99,11 +99,22 @@ prefix_alike m f o x ys fs e s n h = record {
 pub bracket_alike : (x : Lexeme) (fs : Stack) → closes x ≡ false → Alike (after_open true fs) (expect_term (list_elements no_trees ▹ fs)) x
 bracket_alike close_list fs e = absurd (true≢false e)
 bracket_alike x fs e =
-    record { same_step = refl; same_path = refl; same_past = refl; same_lone = lone_by (after_open true fs) (expect_term (list_elements no_trees ▹ fs)) x (λ k. refl) }
+    record {
+      same_step = refl;
+      same_path = refl;
+      same_past = refl;
+      same_lone = lone_by (after_open true fs) (expect_term (list_elements no_trees ▹ fs)) x (λ k. refl);
+    }
 
 pub brace_alike : (x : Lexeme) (fs : Stack) → closes x ≡ false → Alike (after_open false fs) (expect_term (braces ▹ fs)) x
 brace_alike close_curly fs e = absurd (true≢false e)
-brace_alike x fs e = record { same_step = refl; same_path = refl; same_past = refl; same_lone = lone_by (after_open false fs) (expect_term (braces ▹ fs)) x (λ k. refl) }
+brace_alike x fs e =
+    record {
+      same_step = refl;
+      same_path = refl;
+      same_past = refl;
+      same_lone = lone_by (after_open false fs) (expect_term (braces ▹ fs)) x (λ k. refl);
+    }
 
 -- an operator with its right operand is an operand, for all that may follow
 pub before_alike : (c : Bool) (f : List ℕ) (o : Operator) (p : ℕ) (t : Tree) (fs : Stack) (x : Lexeme) → commas fs ≡ c → IsTrue (lawful o)

@@ -2,16 +2,16 @@
 -- it ends in is a prefix operator that opens a level past the limit.
 use Rattle.std.specs.Prelude.{◌≡◌, ℕ, ◌+◌, ◌≤◌, ◌<◌, Bool, true, false, ◌&&◌, not, IsTrue, nat_le, List, [], ◌∷◌, ◌++◌, length, Option, Some, None, Ok}
 use Rattle.std.proofs.Common.{refl, sym, ap, ◌∙◌, subst, arith, append_assoc, true≢false}
-use Rattle.std.proofs.lemmas.Bool.{le-leb, leb-true, and_from}
+use Rattle.std.proofs.lemmas.Bool.{le-leb, leb-true}
 use Rattle.ml_term.specs.Tree.{Trees, arity, nodes}
 use Rattle.ml_token.specs.Values.{number_of}
 use Rattle.ml_token.specs.declared.tokens.Token.{Token}
 use Rattle.ml_token.specs.declared.tokens.TokenKind.TheVariants.{Number}
 use Rattle.ml_reader.specs.Lexemes.{ReadClause, ClauseEnd, Lexeme, number, end}
-use Rattle.ml_reader.specs.Operators.{Operator, prefix_of, priority_fits}
+use Rattle.ml_reader.specs.Operators.{Operator, prefix_of}
 use Rattle.ml_reader.specs.Tokens.{TokenContext, lexeme, lexeme_of, behind, is_tight, text_start, GoesOn}
 use Rattle.ml_reader.specs.Grammar.{IsText, Viable}
-use Rattle.ml_reader.specs.inside.parser.Parser.{arguments, root, Stack, ◌▹◌, State, expect_term, after_open, after_name, after_term, limit, run_tokens}
+use Rattle.ml_reader.specs.inside.parser.Parser.{arguments, root, Stack, ◌▹◌, State, expect_term, after_open, after_name, after_term, run_tokens}
 use Rattle.ml_reader.specs.inside.parser.Parser.{read_tokens}
 use Rattle.ml_reader.specs.Levels.{Level, in_argument, right_of, OpenBefore}
 use Rattle.ml_reader.specs.inside.parser.LimitedSteps.{depth, levels, opens_past, name_too_deep, makes_prefix, joins_minus, is_lone}

@@ -78,7 +78,8 @@ module _ (bytes : List ℕ) (stand : Stand bytes) {xs : List Lexeme} {c : TokenC
       let w : OpenBefore (k.front ++ lexeme bytes k.context k.token ∷ y ∷ []) (y ∷ []) q.levels =
       subst (λ l. OpenBefore l (y ∷ []) q.levels) (ap (λ l. l ++ y ∷ []) k.whole ∙ append_assoc k.front (lexeme bytes k.context k.token ∷ []) (y ∷ []))
       (open_before xs y [] q.levels s r.parsed q.path) in
-      let o : AreOpen bytes k.front k.context k.token q.levels = record { following = y; may = subst (λ c. MayBeNext bytes c y) k.behind_it may; open_there = w } in
+      let o : AreOpen bytes k.front k.context k.token q.levels =
+      record { following = y; may = subst (λ c. MayBeNext bytes c y) k.behind_it may; open_there = w } in
       let h : HasFault bytes k.token.from (fault TooDeep k.token.from) = record {
         tokens = k.front;
         context = k.context;

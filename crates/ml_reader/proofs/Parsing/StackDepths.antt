@@ -5,7 +5,7 @@ use Rattle.std.proofs.lemmas.Bool.{ne_eqb}
 use Rattle.ml_reader.specs.inside.parser.Parser as P
 use Rattle.ml_reader.specs.inside.parser.Parser.{◌▹◌}
 use Rattle.ml_reader.specs.inside.parser.Frames.{frame_seen, stack_on, stack, state_seen}
-use Rattle.ml_reader.specs.inside.parser.LimitedSteps.{depth, frames_left, bracket_past, operator_past, past_operand, to_state, clause_within_nodes}
+use Rattle.ml_reader.specs.inside.parser.LimitedSteps.{depth, frames_left, operator_past, past_operand, to_state, clause_within_nodes}
 use Rattle.ml_reader.specs.Limits.{max_text_levels}
 use Rattle.ml_reader.specs.Lexemes.{Lexeme}
 use Rattle.ml_reader.specs.Operators.{Operator, infix_at}

@@ -208,8 +208,11 @@ past_of_opens xs x s n e (infix_behind_operand {ys = ys} {ls = ls} {t = t} {o = 
     let q : infix_at (commas h.frames) x ≡ Some o = ap (λ c. infix_at c x) (sym (commas_opened h.frames) ∙ ap commas_inside h.levels) ∙ i in
     h.past ∙ (ap (λ m. operator_past m x h.frames) q
     ∙ le-leb max_text_levels (depth (frames_left o.priority h.frames))
-    (omega (arith, length_opened (frames_left o.priority h.frames),
-    ap length (left_levels o.priority h.frames ∙ ap (left_open o.priority) h.levels))))
+    (omega (
+      arith,
+      length_opened (frames_left o.priority h.frames),
+      ap length (left_levels o.priority h.frames ∙ ap (left_open o.priority) h.levels),
+    )))
 
 -- the level past the limit that a token opens
 abbrev pub OpensPast : List Lexeme → Lexeme → Type 0
@@ -229,8 +232,7 @@ module _ (xs : List Lexeme) (x : Lexeme) where
           let l = leb-true max_text_levels (depth fs) b.1 in
           (1 + length (opened fs), bracket_behind_operand w inside b.0, omega (arith, length_opened fs))
       go (Some o) e h =
-          let l = leb-true max_text_levels (depth (frames_left o.priority fs)) h in
-          (
+          let l = leb-true max_text_levels (depth (frames_left o.priority fs)) h in (
             1 + length (left_open o.priority (opened fs)),
             infix_behind_operand w inside (ap (λ c. infix_at c x) (commas_opened fs) ∙ e),
             omega (arith, length_opened (frames_left o.priority fs), ap length (left_levels o.priority fs)),

@@ -147,8 +147,8 @@ module _ (bytes : List ℕ) (stand : Stand bytes) {xs : List Lexeme} {c : TokenC
     open_behind {s'} {ls} y may i p = record {
       following = y;
       may = may;
-      open_there = subst (λ l. OpenBefore l (y ∷ []) ls) (append_assoc xs (lexeme bytes c t ∷ []) (y ∷ [])) (open_before (xs ++ lexeme bytes c t ∷ []) y [] ls s'
-          (read_on i) p);
+      open_there = subst (λ l. OpenBefore l (y ∷ []) ls) (append_assoc xs (lexeme bytes c t ∷ []) (y ∷ []))
+          (open_before (xs ++ lexeme bytes c t ∷ []) y [] ls s' (read_on i) p);
     }
 
     no_argument : {s' : State} {ls : List Level} {j : ℕ} → step true s (lexeme bytes c t) ≡ Ok s' → has_many s' ≡ false
@@ -186,7 +186,8 @@ module _ (bytes : List ℕ) (stand : Stand bytes) {xs : List Lexeme} {c : TokenC
     abbrev SaidAtTurn : LimitedOutcome → Type 0
     SaidAtTurn o = SaysAtToken (outcome_of_step bytes (behind bytes c t) o)
 
-    refused_ranks : (k : Fault) → step true s (lexeme bytes c t) ≡ Err k → (m : ℕ) → (token_too_deep s (lexeme bytes c t) ≡ true → m ≤ 6) → (max_clause_tokens ≤ c.tokens → m ≤ 8)
+    refused_ranks : (k : Fault) → step true s (lexeme bytes c t) ≡ Err k → (m : ℕ) → (token_too_deep s (lexeme bytes c t) ≡ true → m ≤ 6)
+        → (max_clause_tokens ≤ c.tokens → m ≤ 8)
         → (is_lone s (lexeme bytes c t) ≡ true → m ≤ 9) → (Viable false (xs ++ lexeme bytes c t ∷ []) → m ≤ 10) → m ≤ 11
         → Ranks bytes stand r t n m
     refused_ranks k i m d l a v e = record {
@@ -229,13 +230,13 @@ module _ (bytes : List ℕ) (stand : Stand bytes) {xs : List Lexeme} {c : TokenC
         (token_too_deep s (lexeme bytes c t)) (is_lone s (lexeme bytes c t)) (few (Err k)))
     err_said P.clash i =
         stopped_said P.clash PriorityClash i (λ d a e.
-        first (fault PriorityClash t.from) (refused_ranks P.clash i 10 (λ l. absurd (true≢false (sym l ∙ d))) (λ l. absurd (no_long e l)) (λ b. absurd (true≢false (sym b ∙ a))) (λ v. omega arith)
-        (omega arith))
+        first (fault PriorityClash t.from) (refused_ranks P.clash i 10 (λ l. absurd (true≢false (sym l ∙ d))) (λ l. absurd (no_long e l))
+        (λ b. absurd (true≢false (sym b ∙ a))) (λ v. omega arith) (omega arith))
         (priority_clash n (stuck xs s r.parsed (lexeme bytes c t) P.clash i) (right_kind xs s r.parsed (lexeme bytes c t) P.clash i)))
     err_said P.unexpected i =
         stopped_said P.unexpected Unexpected i (λ d a e.
-        first (fault Unexpected t.from) (refused_ranks P.unexpected i 11 (λ l. absurd (true≢false (sym l ∙ d))) (λ l. absurd (no_long e l)) (λ b. absurd (true≢false (sym b ∙ a)))
-        (λ v. absurd (right_kind xs s r.parsed (lexeme bytes c t) P.unexpected i v)) (omega arith))
+        first (fault Unexpected t.from) (refused_ranks P.unexpected i 11 (λ l. absurd (true≢false (sym l ∙ d))) (λ l. absurd (no_long e l))
+        (λ b. absurd (true≢false (sym b ∙ a))) (λ v. absurd (right_kind xs s r.parsed (lexeme bytes c t) P.unexpected i v)) (omega arith))
         (unexpected_token n (stuck xs s r.parsed (lexeme bytes c t) P.unexpected i) (right_kind xs s r.parsed (lexeme bytes c t) P.unexpected i)))
 
     -- the parser takes it
@@ -439,8 +440,9 @@ module _ (bytes : List ℕ) (stand : Stand bytes) {xs : List Lexeme} {c : TokenC
     step_said : (q : Next) → step true s (lexeme bytes c t) ≡ q → EndsClause (lexeme bytes c t) q
         → SaidAtTurn (check_limits (place_at c t) (token_too_deep s (lexeme bytes c t)) (is_lone s (lexeme bytes c t)) (few q))
     step_said (Err k) i j = err_said k i
-    step_said (Ok s') i j = if_cases (λ q. SaidAtTurn (check_limits (place_at c t) (token_too_deep s (lexeme bytes c t)) (is_lone s (lexeme bytes c t)) q)) (has_many s') (Err ManyArguments) (Ok s')
-        (λ m. many_said s' i m) (λ m. fine_said s' i j m)
+    step_said (Ok s') i j =
+        if_cases (λ q. SaidAtTurn (check_limits (place_at c t) (token_too_deep s (lexeme bytes c t)) (is_lone s (lexeme bytes c t)) q))
+        (has_many s') (Err ManyArguments) (Ok s') (λ m. many_said s' i m) (λ m. fine_said s' i j m)
 
   token_says : (t : Token) → IsNext bytes c t → SaysAtToken (outcome_of_step bytes (behind bytes c t) (limited_step (place_at c t) s (lexeme bytes c t)))
   token_says t n =

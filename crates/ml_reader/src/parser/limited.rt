@@ -238,8 +238,8 @@ fn ended_clause(here: TokenPlace, lone: bool, read: Read) -> LimitedStep
     }
 }
 
-// A token that the grammar refuses, unless a limit stands before that. `deep`: it opens a level past
-// the limit.
+// A token that the grammar refuses, unless a limit stands before that. `deep`: it opens a level
+// past the limit.
 fn stop_within_limits(here: TokenPlace, deep: bool, lone: bool, kind: ReadKind) -> LimitedStep
     ensures { limited_step_seen result ≡ stop_within_limits here deep lone kind }
 {

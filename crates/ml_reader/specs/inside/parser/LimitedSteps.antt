@@ -68,12 +68,12 @@ abbrev pub operator_past : Option Operator → Lexeme → Stack → Bool
 operator_past None x fs = bracket_past x (depth fs)
 operator_past (Some o) x fs = nat_le max_text_levels (depth (frames_left o.priority fs))
 
--- the same, by the infix operator that the token is
+-- behind an operand the token opens a level past the limit
 abbrev pub past_operand : Lexeme → Stack → Bool
 past_operand x fs = operator_past (infix_at (commas fs) x) x fs
 
--- behind an operator's name that is no atom, a prefix operator if it is one, a bracket opens a level
--- past the limit
+-- behind an operator's name that is no atom, a prefix operator if it is one, a bracket opens a
+-- level past the limit
 abbrev pub past_prefix : Option Operator → Lexeme → Stack → Bool
 past_prefix None x fs = bracket_past x (depth fs)
 past_prefix (Some o) x fs = bracket_past x (1 + depth fs)
@@ -91,7 +91,8 @@ token_past k (after_open j fs) x = bracket_past x (1 + depth fs)
 token_past k (after_name m f fs) x = past_name k f x fs
 token_past k (after_term p t fs) x = past_operand x fs
 
--- the same
+-- the token opens a level past the limit where it stands, which also tells whether it makes a
+-- prefix operator of the name before it
 abbrev pub token_too_deep : State → Lexeme → Bool
 token_too_deep s x = token_past (makes_prefix s x) s x
 

@@ -20,7 +20,7 @@ pub unreachable-requires : goal.unreachable-requires
 unreachable-requires c =
     none_is_some _
     (held_found c.self.inside.units c.self.invariant _ c.self.view_is c.args.prefix.now.bits None
-      c.in-None.ensures.value c.args.session) c.requires.held
+    c.in-None.ensures.value c.args.session) c.requires.held
 
 pub returns : goal.returns
 returns c s u =

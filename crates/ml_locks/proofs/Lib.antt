@@ -1,5 +1,6 @@
 pub mod Anyone
 pub mod FirstUnit
+pub mod GrantedInTurn
 pub mod LockLaws
 pub mod Oldest
 pub mod Released

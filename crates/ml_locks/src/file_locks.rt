@@ -1,6 +1,7 @@
 //! The locks of one file.
 ghost use Rattle.std.specs.Prelude.{◌≡◌, ◌↔◌, ◌==◌, ◌&&◌, ℕ, Bool, List, IsSome, IsTrue, None, Some, false};
-ghost use Rattle.std.specs.Prelude.{◌<◌, [], length, slice_index_or, true, IfOk, OnErr, OnOk, if◌then◌else◌};
+ghost use Rattle.std.specs.Prelude.{◌<◌, ◌∷◌, ◌++◌, [], length, slice_index_or, true, if◌then◌else◌};
+ghost use Rattle.std.specs.Prelude.{IfOk, OnErr, OnOk};
 ghost use Rattle.std.specs.FinMap as map;
 ghost use Rattle.std.specs.List.{list_any};
 ghost use Rattle.std.specs.Option.{ForSome};
@@ -279,15 +280,46 @@ impl FileLocks {
             (IsGrantedIn self.old session (prefixes_of prefixes.now) mode self.new) }
         ensures err { OnErr result (self.new ≡ self.old) }
     {
-        let Some((first, rest)) = prefixes.split_first() else {
-            return Ok(());
-        };
-        let before = self.mode_of(session, first);
-        self.grant(session, first, mode)?;
-        match self.grant_all(session, rest, mode) {
+        let mut before = Vec::with_capacity(self.alloc, prefixes.len())?;
+        for i in 0..prefixes.len() {
+            if let Err(stop) = self.grant_noted(session, prefixes, i, mode, &mut before) {
+                while let Some(held) = before.pop() {
+                    self.weaken(session, &prefixes[before.len()], held);
+                }
+                return Err(stop);
+            }
+        }
+        Ok(())
+    }
+
+    // A session holds the region with the prefix at a place from now on, in the stronger of this
+    // mode and the one in which it held it, if it did. That one is put behind others. After a
+    // refusal all is as before.
+    fn grant_noted(
+        &mut self,
+        session: u32,
+        prefixes: &[Bits],
+        i: usize,
+        mode: Mode,
+        before: &mut Vec<Option<Mode>>,
+    ) -> Result<(), OutOfMemory>
+        requires within { i < length prefixes.now }
+        requires free { (k : ℕ) → stands_in_way session mode
+            (held_in self.old k (slice_index_or (prefixes_of prefixes.now) i [])) k ≡ false }
+        ensures ok { OnOk result ((s : ℕ) (u : List Bool) → held_in self.new s u ≡
+            (if (s == session) && same_bits u (slice_index_or (prefixes_of prefixes.now) i [])
+            then Some (stronger mode (held_in self.old s u)) else held_in self.old s u)) }
+        ensures noted { OnOk result (before.new.items ≡ before.old.items
+            ++ held_in self.old session (slice_index_or (prefixes_of prefixes.now) i []) ∷ []) }
+        ensures err { OnErr result (self.new ≡ self.old) }
+        ensures kept { OnErr result (before.new.items ≡ before.old.items) }
+    {
+        let held = self.mode_of(session, &prefixes[i]);
+        before.push(held)?;
+        match self.grant(session, &prefixes[i], mode) {
             Ok(()) => Ok(()),
             Err(stop) => {
-                self.weaken(session, first, before);
+                before.pop();
                 Err(stop)
             }
         }

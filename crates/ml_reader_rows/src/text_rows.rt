@@ -274,6 +274,39 @@ fn limits_are_kept_exactly(rt: HostRuntime) -> Result<(), Fail> {
     Ok(())
 }
 
+/// A bracket, and a prefix or infix operator, opens its level also where it is refused; with one
+/// level fewer the other fault is told.
+#[test]
+fn refused_tokens_open_their_levels(rt: HostRuntime) -> Result<(), Fail> {
+    let alloc = rt.alloc();
+    let table: [(usize, &[u8], Told); 16] = [
+        (1000, b"a (", Told::Fault(ReadKind::TooDeep, 1002)),
+        (999, b"a (", Told::Fault(ReadKind::Unexpected, 1001)),
+        (1000, b"a [", Told::Fault(ReadKind::TooDeep, 1002)),
+        (999, b"a [", Told::Fault(ReadKind::Unexpected, 1001)),
+        (999, b":- :- a", Told::Fault(ReadKind::TooDeep, 1002)),
+        (998, b":- :- a", Told::Fault(ReadKind::PriorityClash, 1004)),
+        (999, b":- :-", Told::Fault(ReadKind::TooDeep, 1002)),
+        (998, b":- :-", Told::Fault(ReadKind::Unexpected, 1003)),
+        (999, b"f(a :- ", Told::Fault(ReadKind::TooDeep, 1003)),
+        (998, b"f(a :- ", Told::Fault(ReadKind::PriorityClash, 1002)),
+        (999, b"f(:- a", Told::Fault(ReadKind::TooDeep, 1001)),
+        (998, b"f(:- a", Told::Fault(ReadKind::PriorityClash, 1003)),
+        (999, b"f(:- 'x\\q'", Told::Fault(ReadKind::TooDeep, 1001)),
+        (998, b"f(:- 'x\\q'", Told::Fault(ReadKind::BadEscape, 1005)),
+        (1000, b"= (", Told::Fault(ReadKind::TooDeep, 1002)),
+        (999, b"= (", Told::Fault(ReadKind::Unexpected, 1001)),
+    ];
+    for (times, after, want) in table {
+        assert_eq!(rt;
+            tell_repeated(alloc, b"", b"(", times, after)?,
+            want,
+            "{times} and {after:?}"
+        );
+    }
+    Ok(())
+}
+
 #[test]
 fn clauses_tell_their_names_and_places(rt: HostRuntime) -> Result<(), Fail> {
     let alloc = rt.alloc();

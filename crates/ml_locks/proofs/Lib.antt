@@ -1,3 +1,4 @@
+pub mod Alone
 pub mod Anyone
 pub mod FirstUnit
 pub mod GrantedInTurn

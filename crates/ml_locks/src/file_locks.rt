@@ -63,7 +63,9 @@ impl FileLocks {
     /// The mode in which a session holds the region with this prefix, if it holds it. It takes no
     /// memory.
     pub(crate) fn mode_of(&self, session: u32, prefix: &Bits) -> Option<Mode>
-        ensures { result ≡ held_in self.now session prefix.now.bits }
+        ensures value { result ≡ held_in self.now session prefix.now.bits }
+        ensures alone { result ≡ Some Mode.X → (other : ℕ) →
+            IsSome (held_in self.now other prefix.now.bits) → other ≡ session }
     {
         match self.units.get(prefix) {
             Some(holders) => holders.mode_of(session),

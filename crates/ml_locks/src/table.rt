@@ -47,10 +47,13 @@ impl Table {
         Ok(Table { files: locks })
     }
 
-    /// The mode in which a session holds a unit, if it holds it. It takes no memory.
+    /// The mode in which a session holds a unit, if it holds it. Where that is the exclusive one,
+    /// nobody else holds it. It takes no memory.
     pub fn mode_of(&self, session: u32, pred: u32, prefix: &Bits) -> Option<Mode>
         requires { pred < length self.now }
-        ensures { result ≡ mode_of self.now session pred prefix.now.bits }
+        ensures value { result ≡ mode_of self.now session pred prefix.now.bits }
+        ensures alone { result ≡ Some Mode.X → (other : ℕ) →
+            IsSome (mode_of self.now other pred prefix.now.bits) → other ≡ session }
     {
         let file = &self.files[pred as usize];
         file.mode_of(session, prefix)
